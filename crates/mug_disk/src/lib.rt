@@ -1,0 +1,6 @@
+//! The disk that a session stands on.
+#![tactic(auto)]
+
+mod disk;
+
+pub use disk::Disk;

@@ -1,0 +1,10 @@
+//! The outside: bytes that come in, bytes that go out, and counts of what failed.
+#![tactic(auto)]
+
+mod failed;
+mod sink;
+mod source;
+
+pub use failed::Failed;
+pub use sink::{Sink, WriteFault, write_whole};
+pub use source::{ReadAll, Source, read_all};

@@ -1,0 +1,12 @@
+//! Texts, and the small types that the layers above share: bytes, lists, and the want of memory.
+#![tactic(auto)]
+
+mod bytes;
+mod listed;
+mod memory;
+mod text;
+
+pub use bytes::Bytes;
+pub use listed::Listed;
+pub use memory::NoMemory;
+pub use text::{JText, TextFault};

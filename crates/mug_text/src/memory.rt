@@ -1,0 +1,14 @@
+// The want of memory.
+use std::alloc::AllocError;
+use thiserror::Error;
+
+/// No memory was left. No clause says when it comes.
+#[derive(Clone, Copy, Debug, PartialEq, Eq, Error)]
+#[error("out of memory")]
+pub struct NoMemory;
+
+impl From<AllocError> for NoMemory {
+    fn from(_error: AllocError) -> NoMemory {
+        NoMemory
+    }
+}
