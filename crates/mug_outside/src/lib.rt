@@ -2,9 +2,11 @@
 #![tactic(auto)]
 
 mod failed;
+mod failing;
 mod sink;
 mod source;
 
 pub use failed::Failed;
+pub use failing::Failing;
 pub use sink::{Sink, WriteFault, write_whole};
 pub use source::{ReadAll, Source, read_all};
