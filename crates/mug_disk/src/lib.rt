@@ -2,5 +2,11 @@
 #![tactic(auto)]
 
 mod disk;
+mod file;
+mod memory;
+#[cfg(test)]
+mod tests;
 
 pub use disk::Disk;
+pub use file::FileDisk;
+pub use memory::MemDisk;
