@@ -1,5 +1,5 @@
 // A disk in memory.
-ghost use Rattle.std.specs.Prelude.{◌≡◌, ◌↔◌, ◌⊎◌, ◌-◌, ◌≤◌, [], ◌∷◌, length, take, drop, min, IsErr, IfOk, OnOk, OnErr, Some, vec_len};
+ghost use Rattle.std.specs.Prelude.{◌≡◌, ◌↔◌, ◌⊎◌, ◌-◌, ◌≤◌, [], ◌∷◌, length, take, drop, min, IsErr, IsTrue, IfOk, OnOk, OnErr, Some, vec_len};
 ghost use Rattle.mug_outside.specs.Cause.{HasCause, Rose, counted};
 ghost use Rattle.mug_outside.specs.Schedule.{IsDue, next};
 ghost use Rattle.mug_disk.specs.Held.{over, Torn};
@@ -108,6 +108,15 @@ impl MemDisk {
         self.starved
     }
 
+    // Counts a write or a sync, and tells whether it is to fail.
+    fn write_fails(&mut self) -> bool
+        ensures counted { self.new ≡ record self.old { moment = counted self.old.moment; writes = next self.old.writes } }
+        ensures fails { IsTrue result ↔ IsDue self.old.writes }
+    {
+        self.moment = self.moment.saturating_add(1);
+        self.writes.next_fails()
+    }
+
     // Counts a call that fails.
     fn failed(&mut self) -> Failed
         ensures counted { self.new ≡ record self.old { faults = counted self.old.faults } }
@@ -189,8 +198,7 @@ impl Disk for MemDisk {
         ensures writes { self.new.writes ≡ next self.old.writes }
         ensures reads { self.new.reads ≡ self.old.reads }
     {
-        self.moment = self.moment.saturating_add(1);
-        if self.writes.next_fails() {
+        if self.write_fails() {
             return Err(self.failed());
         }
         if overwrite(&mut self.held, at as usize, bytes).is_err() {
@@ -212,11 +220,10 @@ impl Disk for MemDisk {
         ensures writes { self.new.writes ≡ next self.old.writes }
         ensures reads { self.new.reads ≡ self.old.reads }
     {
-        self.moment = self.moment.saturating_add(1);
-        if self.writes.next_fails() {
-            return Err(self.failed());
+        if !self.write_fails() {
+            return Ok(());
         }
-        Ok(())
+        Err(self.failed())
     }
 }
 
