@@ -29,6 +29,7 @@ impl<F> Model for FileDisk<F> {
 }
 
 impl<F> FileDisk<F> {
+    /// A disk over a file that is open for what is to be done with it.
     pub fn new(file: F) -> FileDisk<F>
         ensures { result ≡ record { there = true; moment = 0; faults = 0 } }
     {
