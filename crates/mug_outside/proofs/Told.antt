@@ -1,7 +1,7 @@
 -- How told contents go on from one call to the next.
 use Rattle.std.proofs.Common.{◌≡◌, ℕ, ◌+◌, ◌-◌, ◌<◌, ◌≤◌, List, [], ◌∷◌, ◌++◌, length, take, drop, get_or, Some, None, Option, refl, sym, ◌∙◌, ap, append_assoc}
 use Rattle.std.proofs.Math.Seq.{take-add}
-use Rattle.std.proofs.lemmas.List.{append-nil, take_rest, take-append-drop, drop_more}
+use Rattle.std.proofs.lemmas.List.{append-nil, take_rest, take_at, take-append-drop, drop-drop, drop_more, length-take-le}
 use Rattle.mug_outside.specs.Told.{ahead, behind, TookPart, TookLess}
 
 pub behind_behind : (xs ys : List ℕ) (o : Option (List ℕ)) → behind ys (behind xs o) ≡ behind (xs ++ ys) o
@@ -44,3 +44,10 @@ part_of all before piece after start mid new whole is (part, rest, split, took) 
 
 pub part_from_less : (text : List ℕ) (start new : Option (List ℕ)) → TookLess text start new → TookPart text start new
 part_from_less text start new (part, byte, rest, split, took) = (part, byte ∷ rest, split, took)
+
+-- what was copied into the front of a buffer, and what is left behind it
+pub copied : (bytes piece into : List ℕ) (at n : ℕ) → n ≤ length (drop at bytes) → piece ≡ take n (drop at bytes) → drop at bytes ≡ take n (piece ++ into) ++ drop (at + n) bytes
+copied bytes piece into at n fits is =
+    let size : length piece ≡ n = ap length is ∙ length-take-le n (drop at bytes) fits in
+    let front : take n (piece ++ into) ≡ take n (drop at bytes) = take_at piece into n size ∙ is in
+    sym (ap (λ (l : List ℕ). l ++ drop (at + n) bytes) front ∙ ap (λ (l : List ℕ). take n (drop at bytes) ++ l) (sym (drop-drop n at bytes)) ∙ take-append-drop n (drop at bytes))
