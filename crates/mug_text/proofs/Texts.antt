@@ -1,5 +1,5 @@
 -- Laws of texts: a text is determined by its bytes and by its code points, and no text's bytes stop.
-use Rattle.std.proofs.Common.{◌≡◌, ◌≢◌, ℕ, ◌+◌, ◌-◌, ◌/◌, ◌%◌, ◌<◌, ◌≤◌, ◌⊎◌, inl, inr, ⊎_elim, true, false, ◌&&◌, if◌then◌else◌, List, [], ◌∷◌, ◌++◌, map, All, refl, sym, ap, subst, ◌∙◌, append_assoc, arith}
+use Rattle.std.proofs.Common.{◌≡◌, ◌≢◌, ℕ, ◌+◌, ◌-◌, ◌/◌, ◌%◌, ◌<◌, ◌≤◌, ◌⊎◌, inl, inr, ⊎_elim, true, false, ◌&&◌, if◌then◌else◌, List, [], ◌∷◌, ◌++◌, map, All, refl, sym, ap, subst, ◌∙◌, append_assoc, arith, length, length-append}
 use Rattle.std.specs.List.{flat_map}
 use Rattle.std.specs.Str.{all_scalars, encode_utf8_all, StartsWithNoChar}
 use Rattle.std.specs.Char.{IsScalar, encode_utf8}
@@ -7,7 +7,7 @@ use Rattle.std.specs.Char.Escape.{encode_utf16}
 use Rattle.std.specs.Char.Utf16.{is_high_surrogate, is_low_surrogate, surrogate_pair_char}
 use Rattle.std.proofs.lemmas.Bool.{ltb-true, leb-true, lt-ltb, le-ltb, lt-leb, le-leb, and_parts, and_from, and_left, and_right, cond_both, cond-true, cond-false, cases_lt}
 use Rattle.std.proofs.lemmas.List.Elements.{All-head, All-tail}
-use Rattle.std.proofs.lemmas.Str.{encodes_same, cons_from_encodes}
+use Rattle.std.proofs.lemmas.Str.{encodes_same, encode_same, cons_from_encodes}
 use lib.Utf8.{scalar, scalar_cases}
 use Rattle.mug_text.specs.Text.{IsText, StopsAt, joined, code_points, IsWellFormed, utf8_of}
 
@@ -143,6 +143,23 @@ pub text_or_stop : {bytes : List ℕ} {at : ℕ} → StopsAt bytes at → (t : L
 text_or_stop stop t well same =
     let rest = rest_is_text (code_points t) stop.points stop.rest (sym (utf8_of-well_formed t well) ∙ same ∙ stop.split) in
     no_start rest.0 stop.rest (rest.1 well) rest.2 stop.more stop.none
+
+-- bytes stop at one place at most
+one_length : (cs ds r t : List ℕ) → all_scalars cs ≡ true → all_scalars ds ≡ true → StartsWithNoChar r → StartsWithNoChar t
+    → encode_utf8_all cs ++ r ≡ encode_utf8_all ds ++ t → length (encode_utf8_all cs) ≡ length (encode_utf8_all ds)
+one_length [] [] r t are all none bare same = refl
+one_length [] (d ∷ ds) r t are all none bare same =
+    absurd (none d (encode_utf8_all ds ++ t) (and_parts (scalar d) (all_scalars ds) all).0 (same ∙ append_assoc (encode_utf8 d) (encode_utf8_all ds) t))
+one_length (c ∷ cs) [] r t are all none bare same =
+    absurd (bare c (encode_utf8_all cs ++ r) (and_parts (scalar c) (all_scalars cs) are).0 (sym same ∙ append_assoc (encode_utf8 c) (encode_utf8_all cs) r))
+one_length (c ∷ cs) (d ∷ ds) r t are all none bare same =
+    let step = encode_same c d (encode_utf8_all cs ++ r) (encode_utf8_all ds ++ t) (sym (append_assoc (encode_utf8 c) (encode_utf8_all cs) r) ∙ same ∙ append_assoc (encode_utf8 d) (encode_utf8_all ds) t) in
+    let rest = one_length cs ds r t (and_parts (scalar c) (all_scalars cs) are).1 (and_parts (scalar d) (all_scalars ds) all).1 none bare step.1 in
+    omega (arith, rest, ap (λ x. length (encode_utf8 x)) step.0, length-append (encode_utf8 c) (encode_utf8_all cs), length-append (encode_utf8 d) (encode_utf8_all ds))
+
+pub one_stop : {bytes : List ℕ} {at place : ℕ} → StopsAt bytes at → StopsAt bytes place → at ≡ place
+one_stop first second =
+    first.place ∙ one_length first.points second.points first.rest second.rest first.scalars second.scalars first.none second.none (sym first.split ∙ second.split) ∙ sym second.place
 
 -- a text is determined by its bytes
 pub same_text : (t u : List ℕ) → All (λ x. x < 0x1_0000) t → All (λ x. x < 0x1_0000) u → IsWellFormed t → IsWellFormed u → utf8_of t ≡ utf8_of u → t ≡ u
