@@ -1,7 +1,7 @@
 -- Texts: bytes in UTF-8 (RFC 3629), lists of 16-bit units (ECMA-262 edition 5.1, 8.4), and the code points between them.
 -- `encode_utf8 c` are the one to four bytes of the scalar value c, and `encode_utf16 c` its one or two units (the Unicode standard, 3.9);
 -- `IsScalar c` says that c is at most 0x10FFFF and no surrogate, and `StartsWithNoChar` that no scalar value's bytes stand in front.
-use Rattle.std.specs.Prelude.{◌≡◌, ◌≢◌, ℕ, ◌+◌, ◌-◌, ◌*◌, ◌/◌, ◌%◌, ◌^◌, ◌<◌, Bool, true, ◌&&◌, ◌||◌, not, List, [], ◌∷◌, ◌++◌, length, map, flat_map, codes, nat_lt, ◌==◌, if◌then◌else◌}
+use Rattle.std.specs.Prelude.{◌≡◌, ◌≢◌, ℕ, ◌/◌, ◌%◌, Bool, true, ◌&&◌, ◌||◌, not, List, [], ◌∷◌, ◌++◌, length, map, flat_map, codes, nat_lt, ◌==◌, if◌then◌else◌}
 use Rattle.std.specs.Char.{encode_utf8, digit_char}
 use Rattle.std.specs.Char.Escape.{encode_utf16}
 use Rattle.std.specs.Char.Utf16.{is_high_surrogate, is_low_surrogate, surrogate_pair_char}

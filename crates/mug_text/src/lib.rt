@@ -4,9 +4,13 @@
 mod bytes;
 mod listed;
 mod memory;
+mod shown;
 mod text;
 
 pub use bytes::Bytes;
 pub use listed::Listed;
 pub use memory::NoMemory;
 pub use text::{JText, TextFault};
+
+#[cfg(test)]
+mod tests;

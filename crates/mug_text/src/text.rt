@@ -1,11 +1,14 @@
 // Texts of 16-bit units.
-ghost use Rattle.std.specs.Prelude.{◌≡◌, ◌<◌, length, IfOk};
-ghost use Rattle.mug_text.specs.Text.{shown_text, IsText};
+ghost use Rattle.std.specs.Prelude.{◌≡◌, ◌≢◌, ℕ, ◌<◌, ◌++◌, List, length, slice_index, All, OnOk, OnErr, IfOk, IfErr};
+ghost use Rattle.mug_text.specs.Text.{shown_text, utf8_of, IsText, IsWellFormed};
+ghost use Rattle.mug_text.specs.TextFault.{Refuses};
 
 use crate::NoMemory;
-use std::alloc::Global;
+use crate::shown::push_text;
+use std::alloc::{AllocError, Global};
 use std::marker::Model;
 use std::rc::RcSlice;
+use std::str;
 use thiserror::Error;
 
 /// An immutable list of 16-bit units (ECMA-262 edition 5.1, 8.4). Copies share the units.
@@ -33,11 +36,71 @@ pub enum TextFault {
     NoMemory,
 }
 
+impl From<AllocError> for TextFault {
+    ghost use Rattle.mug_text.specs.declared.text.TextFault.TheVariants.{NoMemory as no_memory};
+
+    ghost from_gives = { λ _ fault. fault ≡ no_memory };
+
+    fn from(_error: AllocError) -> TextFault {
+        TextFault::NoMemory
+    }
+}
+
 impl JText {
+    /// The text that these bytes are in UTF-8.
+    pub fn from_utf8(alloc: Global, bytes: &[u8]) -> Result<JText, TextFault>
+        ensures ok { IfOk result (λ text. IsText bytes.now text) }
+        ensures well_formed { IfOk result (λ text. IsWellFormed text) }
+        ensures whole { IfOk result (λ text. utf8_of text ≡ bytes.now) }
+        ensures unique { IfOk result (λ text. (t : List ℕ) → All (λ unit. unit < 0x1_0000) t → IsWellFormed t → utf8_of t ≡ bytes.now → t ≡ text) }
+
+        ensures refused { IfErr result (λ fault. Refuses fault bytes.now) }
+        ensures no_text { (at : ℕ) → result ≡ Err (TextFault.NotUtf8 at) → (t : List ℕ) → IsWellFormed t → utf8_of t ≢ bytes.now }
+    {
+        match str::from_utf8(bytes) {
+            Ok(text) => {
+                let units = text.encode_utf16().collect(alloc)?;
+                Ok(JText { units })
+            }
+            Err(fault) => Err(TextFault::NotUtf8 {
+                at: fault.valid_up_to(),
+            }),
+        }
+    }
+
+    /// Another owner of the same units.
+    pub fn copy(&self) -> Result<JText, NoMemory>
+        ensures { IfOk result (λ copy. copy ≡ self.now) }
+    {
+        let units = self.units.clone()?;
+        Ok(JText { units })
+    }
+
     /// The number of units.
     pub fn len(&self) -> usize
         ensures { result ≡ length self.now }
     {
         self.units.len()
+    }
+
+    /// The unit at an index.
+    pub fn unit(&self, index: usize) -> u16
+        requires { index < length self.now }
+        ensures { result ≡ slice_index self.now index }
+    {
+        self.units.as_slice()[index]
+    }
+
+    /// Appends the text in UTF-8, with escapes for what does not print.
+    pub fn shown(&self, out: &mut Vec<u8>) -> Result<(), NoMemory>
+        ensures ok { OnOk result (out.new.items ≡ out.old.items ++ shown_text self.now) }
+        ensures err { OnErr result (out.new.items ≡ out.old.items) }
+    {
+        let before = out.len();
+        let pushed = push_text(self.units.as_slice(), out);
+        if pushed.is_err() {
+            out.truncate(before);
+        }
+        pushed
     }
 }

@@ -1,0 +1,3 @@
+pub mod Texts
+mod Decoding
+mod Reading
