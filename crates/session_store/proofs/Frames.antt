@@ -1,0 +1,116 @@
+-- One frame more.
+use Rattle.std.proofs.Common.{◌≡◌, ◌≢◌, ℕ, ◌+◌, Bool, true, false, ◌==◌, List, [], ◌∷◌, ◌++◌, length, drop, map, refl, sym, ◌∙◌, ap, subst, arith, append_assoc, length-append}
+use Rattle.std.proofs.lemmas.List.Elements.{All-head, All-tail, All-push, All-nil}
+use Rattle.std.proofs.lemmas.Bool.Decides.{nat_tests}
+use Rattle.std.proofs.lemmas.Grind.{flat_map-append}
+use Rattle.std.proofs.lemmas.List.{append-nil, map-append}
+use Rattle.input_log.specs.Items.{IsItem}
+use Rattle.input_log.specs.declared.item.LogItem.{LogItem}
+use Rattle.input_log.proofs.Laws.{same_item}
+use Rattle.log_frames.specs.Frames.{OpensFrame, OpensNone, frame, opened}
+use Rattle.session_store.specs.Session.{AreInputs, AreItems, IsLog, MayFollow, items_of, magic, payload_of}
+use Rattle.session_store.specs.Recovery.{IsBroken, IsWhole}
+use Rattle.session_store.specs.Steps.{Follows, MayStand, SoFar}
+use Rattle.session_store.proofs.Items.{no_bytes}
+
+-- a payload is that of one list of items
+pub same_items : (xs ys : List LogItem) → AreItems xs → AreItems ys → payload_of xs ≡ payload_of ys → xs ≡ ys
+same_items [] [] vx vy same = refl
+same_items [] (y ∷ ys) vx vy same = absurd (no_bytes y (payload_of ys) [] (append-nil (payload_of (y ∷ ys)) ∙ sym same))
+same_items (x ∷ xs) [] vx vy same = absurd (no_bytes x (payload_of xs) [] (append-nil (payload_of (x ∷ xs)) ∙ same))
+same_items (x ∷ xs) (y ∷ ys) vx vy same =
+    let both = same_item x y (payload_of xs) (payload_of ys) (All-head IsItem x xs vx) (All-head IsItem y ys vy) same in
+    let tails = same_items xs ys (All-tail IsItem x xs vx) (All-tail IsItem y ys vy) both.1 in
+    λ i. both.0 i ∷ tails i
+
+not_empty : (x : LogItem) (xs : List LogItem) → (length (x ∷ xs) == 0) ≡ false
+not_empty x xs = grind (arith, nat_tests)
+
+-- the first frame is the one behind no items
+pub stands_there : (before : List (List LogItem)) (old items : List LogItem) (first : Bool) → IsLog before → old ≡ items_of before → first ≡ (length old == 0) → AreItems items
+    → (MayStand first items → MayFollow before items) × (MayFollow before items → MayStand first items)
+stands_there [] old items first log is empty valid =
+    let e : first ≡ true = empty ∙ ap (λ (l : List LogItem). length l == 0) is in
+    subst (λ (b : Bool). (MayStand b items → MayFollow [] items) × (MayFollow [] items → MayStand b items)) (sym e) ((λ s. (valid, s)), (λ f. f.1))
+stands_there (g ∷ gs) old items first log is empty valid =
+    let head = log.0.1 in
+    let e : first ≡ false = empty ∙ ap (λ (l : List LogItem). length l == 0) (is ∙ ap (λ (l : List LogItem). l ++ items_of gs) head.1) ∙ not_empty head.0 (items_of gs) in
+    subst (λ (b : Bool). (MayStand b items → MayFollow (g ∷ gs) items) × (MayFollow (g ∷ gs) items → MayStand b items)) (sym e) ((λ s. (valid, s)), (λ f. f.1))
+
+pub frame_reads : (before : List (List LogItem)) (old new items : List LogItem) (payload : List ℕ) (first : Bool) → IsLog before → old ≡ items_of before → first ≡ (length old == 0)
+    → AreItems items → payload ≡ payload_of items → MayStand first items → new ≡ old ++ items → Follows before payload old new
+frame_reads before old new items payload first log is empty valid reads stands grown =
+    (items, (stands_there before old items first log is empty valid).0 stands, reads, grown)
+
+pub frame_stands_not : (before : List (List LogItem)) (old items : List LogItem) (payload : List ℕ) (first : Bool) → IsLog before → old ≡ items_of before → first ≡ (length old == 0)
+    → AreItems items → payload ≡ payload_of items → (MayStand first items → ⊥) → (group : List LogItem) → MayFollow before group → payload ≢ payload_of group
+frame_stands_not before old items payload first log is empty valid reads stands_not group follows same =
+    let valid_group : AreItems group = items_valid before group follows in
+    let e : group ≡ items = same_items group items valid_group valid (sym same ∙ reads) in
+    stands_not (subst (MayStand first) e ((stands_there before old group first log is empty valid_group).1 follows))
+  where
+    items_valid : (before : List (List LogItem)) (group : List LogItem) → MayFollow before group → AreItems group
+    items_valid [] group follows = follows.0
+    items_valid (g ∷ gs) group follows = follows.0
+
+opened-push : (ps : List (List ℕ)) (p rest : List ℕ) → opened (ps ++ p ∷ []) ++ rest ≡ opened ps ++ (1 ∷ (frame p ++ rest))
+opened-push [] p rest = ap (λ (l : List ℕ). 1 ∷ (l ++ rest)) (append-nil (frame p))
+opened-push (q ∷ qs) p rest =
+    ap (λ (l : List ℕ). 1 ∷ l)
+    (append_assoc (frame q) (opened (qs ++ p ∷ [])) rest ∙ ap (λ (l : List ℕ). frame q ++ l) (opened-push qs p rest) ∙ sym (append_assoc (frame q) (opened qs) (1 ∷ (frame p ++ rest))))
+
+length-opened-push : (ps : List (List ℕ)) (p : List ℕ) → length (opened (ps ++ p ∷ [])) ≡ length (opened ps) + 5 + length p
+length-opened-push ps p =
+    let e = ap length (sym (append-nil (opened (ps ++ p ∷ []))) ∙ opened-push ps p []) in
+    omega (arith, e, length-append (opened ps) (1 ∷ (frame p ++ [])), length-append (frame p) [])
+
+log-push : (before : List (List LogItem)) (items : List LogItem) → IsLog before → MayFollow before items → IsLog (before ++ items ∷ [])
+log-push [] items log follows = (follows, All-nil (λ group. AreItems group × AreInputs group))
+log-push (g ∷ gs) items log follows = (log.0, All-push (λ group. AreItems group × AreInputs group) gs items log.1 follows)
+
+-- a frame that reads, behind those so far
+pub further : (bytes payload : List ℕ) (old new : List LogItem) (at at' : ℕ) → (so_far : SoFar bytes old at) → OpensFrame (drop at bytes) payload (drop at' bytes) → at' ≡ at + 5 + length payload
+    → Follows so_far.frames payload old new → SoFar bytes new at'
+further bytes payload old new at at' so_far opens next follows =
+    let frames = so_far.frames in
+    let group = follows.0 in
+    let log = so_far.has.log in
+    let payloads : map payload_of (frames ++ group ∷ []) ≡ map payload_of frames ++ payload ∷ [] =
+    map-append payload_of frames (group ∷ []) ∙ ap (λ (p : List ℕ). map payload_of frames ++ p ∷ []) (sym follows.2) in
+    record {
+      frames = frames ++ group ∷ [];
+      has = record {
+        log = log-push frames group log follows.1;
+        gate = opens.gate;
+        is = so_far.has.is ∙ ap (λ (l : List ℕ). magic ++ l)
+            (ap (λ (l : List ℕ). opened (map payload_of frames) ++ l) opens.is ∙ sym (opened-push (map payload_of frames) payload (drop at' bytes))
+            ∙ ap (λ (l : List (List ℕ)). opened l ++ drop at' bytes) (sym payloads));
+      };
+      items_are = follows.3 ∙ ap (λ (l : List LogItem). l ++ group) so_far.items_are
+          ∙ sym (flat_map-append (λ (items : List LogItem). items) frames (group ∷ []) ∙ ap (λ (l : List LogItem). items_of frames ++ l) (append-nil group));
+      place = omega (arith, so_far.place, next, length-opened-push (map payload_of frames) payload, ap (λ (l : List (List ℕ)). length (opened l)) payloads);
+    }
+
+-- a frame that doesn't read
+pub broken : (bytes payload : List ℕ) (old : List LogItem) (at at' from : ℕ) → (so_far : SoFar bytes old at) → OpensFrame (drop at bytes) payload (drop at' bytes) → from ≡ at + 1
+    → ((group : List LogItem) → MayFollow so_far.frames group → payload ≢ payload_of group) → IsBroken bytes from payload
+broken bytes payload old at at' from so_far opens place unread = record {
+  frames = so_far.frames;
+  rest = drop at bytes;
+  has = so_far.has;
+  place = place ∙ so_far.place;
+  after = drop at' bytes;
+  opens = opens;
+  unread = unread;
+}
+
+-- no further frame
+pub whole : (bytes : List ℕ) (items : List LogItem) (at end : ℕ) → SoFar bytes items at → OpensNone (drop at bytes) → end ≡ at + 1 → IsWhole bytes items end
+whole bytes items at end so_far none place = record {
+  frames = so_far.frames;
+  rest = drop at bytes;
+  has = so_far.has;
+  items_are = so_far.items_are;
+  place = place ∙ so_far.place;
+  ends = none;
+}

@@ -1,0 +1,16 @@
+use Rattle.std.proofs.Common.{◌≡◌, ◌∙◌, arith}
+use Rattle.session_store.proofs.Told.{tell_further}
+use Rattle.session_store.proofs.recovery.read_frames.Goals as goal
+
+pub frames-preserved : goal.frames-preserved
+frames-preserved g c =
+    let told = rw c.in-Ok-Frame.field-0-is at c.in-Ok-Frame.ensures.told in
+    let place = rw c.in-Ok-Frame.field-0-is at c.in-Ok-Frame.ensures.place in
+    let payload : c.deref.result.now ≡ c.next.new.payload.items = c.deref.ensures.value in
+    let follows = rw (c.in-Ok-true.field-0-test, payload) at c.in-Ok-true.ensures in (
+      c.next.ensures.held ∙ c.frames.invariant.0,
+      c.next.ensures.moment ∙ c.frames.invariant.1,
+      omega (arith, c.frames.invariant.2, c.next.ensures.later),
+      place.2,
+      tell_further _ _ c.next.new.payload.items c.frames.items.items c.read_frame.new.items.items c.frames.reader c.next.new.self c.frames.invariant.0 c.frames.invariant.4 told place.1 follows,
+    )

@@ -1,0 +1,4 @@
+pub mod Session
+pub mod Recovery
+pub mod Telling
+pub mod Steps

@@ -1,0 +1,166 @@
+// Recovers the items of a session file, whatever a stop made of its end.
+ghost use Rattle.std.specs.Prelude.{◌≡◌, ◌≢◌, ◌↔◌, ℕ, ◌<◌, ◌≤◌, List, [], ◌++◌, IfOk, IfSome, IsErrOf, IsTrue, MatchBool, MatchOption, ◌∷◌};
+ghost use Rattle.mug_outside.specs.Cause.{Rose};
+ghost use Rattle.session_store.specs.Session.{AreItems, HasHeader, IsLog, MayFollow, is_head, items_of, magic, payload_of};
+ghost use Rattle.session_store.specs.Steps.{Follows, MayStand};
+ghost use Rattle.session_store.specs.Telling.{Tells};
+ghost use Rattle.input_log.specs.declared.item.LogItem.{LogItem};
+
+use input_log::{LogItem, decode};
+use log_frames::{FrameFault, FrameReader, Next};
+use mug_disk::Disk;
+use mug_text::{Listed, NoMemory};
+use std::alloc::Global;
+use thiserror::Error;
+
+/// The items of a session file, and the offset just behind its last open, whole frame.
+#[derive(Debug, Drop)]
+pub struct Session {
+    pub items: Listed<LogItem>,
+    pub end: u64,
+}
+
+/// Why a session was not recovered.
+#[derive(Clone, Copy, Debug, PartialEq, Eq, Error)]
+pub enum RecoverFault {
+    /// There is no whole header.
+    #[error("not a session")]
+    NotASession,
+    /// The frame whose length stands at this offset doesn't read.
+    #[error("damaged session at {at}")]
+    Damaged { at: u64 },
+    /// The disk failed.
+    #[error("disk fault")]
+    DiskFault,
+    #[error("out of memory")]
+    NoMemory,
+}
+
+// The items of a payload, where it is nothing but items.
+fn read_items(alloc: Global, payload: &[u8]) -> Result<Option<Vec<LogItem>>, NoMemory>
+    ensures { IfOk result (λ found. MatchOption found ((items : List LogItem) → AreItems items → payload.now ≢ payload_of items) (λ items. AreItems items.items × (payload.now ≡ payload_of items.items))) }
+{
+    let mut items = Vec::new(alloc);
+    let mut at = 0;
+    while at < payload.len() {
+        match decode(alloc, &payload[at..])? {
+            Some((item, len)) => {
+                if items.push(item).is_err() {
+                    return Err(NoMemory);
+                }
+                at += len;
+            }
+            None => return Ok(None),
+        }
+    }
+    Ok(Some(items))
+}
+
+fn is_head(item: &LogItem) -> bool
+    ensures { result ≡ is_head item.now }
+{
+    match item {
+        LogItem::Head {
+            base: _,
+            budget: _,
+            page: _,
+        } => true,
+        LogItem::Load { t: _ } => false,
+        LogItem::Now { v: _ } => false,
+        LogItem::Rand { w: _ } => false,
+    }
+}
+
+// Whether the items may stand in the first frame, or in a later one.
+fn may_stand(first: bool, items: &[LogItem]) -> bool
+    ensures { IsTrue result ↔ MayStand first items.now }
+{
+    if first {
+        match items {
+            [head] => is_head(head),
+            _ => false,
+        }
+    } else {
+        !items.is_empty() && items.iter().all(|item| !is_head(item))
+    }
+}
+
+// Reads a frame behind the items of the frames before it, and tells whether it reads.
+fn read_frame(alloc: Global, payload: &[u8], items: &mut Vec<LogItem>) -> Result<bool, NoMemory>
+    ensures { IfOk result (λ reads. (before : List (List LogItem)) → IsLog before → items.old.items ≡ items_of before
+        → MatchBool reads (Follows before payload.now items.old.items items.new.items) ((group : List LogItem) → MayFollow before group → payload.now ≢ payload_of group)) }
+{
+    let first = items.is_empty();
+    let Some(mut group) = read_items(alloc, payload)? else {
+        return Ok(false);
+    };
+    if !may_stand(first, &group) {
+        return Ok(false);
+    }
+    if items.append(&mut group).is_err() {
+        return Err(NoMemory);
+    }
+    Ok(true)
+}
+
+// Nine bytes, of which the first eight are the magic ones.
+fn is_header(front: &[u8]) -> bool
+    ensures { IsTrue result ↔ ((gate : ℕ) × (front.now ≡ magic ++ gate ∷ [])) }
+{
+    match front.strip_prefix(b"MUGSHOT1") {
+        Some([_gate]) => true,
+        _ => false,
+    }
+}
+
+// Reads the frames behind a whole header.
+fn read_frames<D: Disk>(alloc: Global, disk: &mut D) -> Result<Session, RecoverFault>
+    ensures told { IfSome (D.held disk.old) (λ held. HasHeader held → Tells result held) }
+    ensures not_a_session { IsErrOf result RecoverFault.NotASession → ⊥ }
+    ensures fault { IsErrOf result RecoverFault.DiskFault → Rose (D.faults disk.old) (D.faults disk.new) }
+    ensures later { D.faults disk.old ≤ D.faults disk.new }
+    ensures held { D.held disk.new ≡ D.held disk.old }
+    ensures moment { D.moment disk.new ≡ D.moment disk.old }
+{
+    let mut reader = FrameReader::at(8);
+    let mut items = Vec::new(alloc);
+    let mut payload = Vec::new(alloc);
+    'frames: loop {
+        let from = match reader.next(disk, &mut payload) {
+            Ok(Next::Frame { from }) => from,
+            Ok(Next::End) => {
+                let end = reader.offset() + 1;
+                return Ok(Session {
+                    items: Listed::of(items),
+                    end,
+                });
+            }
+            Err(FrameFault::ReadFault) => return Err(RecoverFault::DiskFault),
+            Err(FrameFault::NoMemory) => return Err(RecoverFault::NoMemory),
+        };
+        match read_frame(alloc, &payload, &mut items) {
+            Ok(true) => {}
+            Ok(false) => return Err(RecoverFault::Damaged { at: from }),
+            Err(NoMemory) => return Err(RecoverFault::NoMemory),
+        }
+    }
+}
+
+/// The items of the frames up to the first closed gate or incomplete frame.
+pub fn recover<D: Disk>(alloc: Global, disk: &mut D) -> Result<Session, RecoverFault>
+    ensures told { IfSome (D.held disk.old) (λ held. Tells result held) }
+    ensures fault { IsErrOf result RecoverFault.DiskFault → Rose (D.faults disk.old) (D.faults disk.new) }
+    ensures later { D.faults disk.old ≤ D.faults disk.new }
+    ensures held { D.held disk.new ≡ D.held disk.old }
+    ensures moment { D.moment disk.new ≡ D.moment disk.old }
+{
+    let mut front = [0; 9];
+    let n = match disk.read_at(0, &mut front) {
+        Ok(n) => n,
+        Err(_) => return Err(RecoverFault::DiskFault),
+    };
+    if !is_header(&front[..n]) {
+        return Err(RecoverFault::NotASession);
+    }
+    read_frames(alloc, disk)
+}
