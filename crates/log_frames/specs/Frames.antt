@@ -1,8 +1,9 @@
--- Frames of a session file, from a gate on: the gate, the length of a payload, the payload, and the next gate. A gate is open exactly if it is 1.
+-- Frames of a session file. In front of each frame stands a gate of one byte, which is open exactly if it is 1; a frame is the length of its payload, in four bytes
+-- with the highest first, the payload, and the next gate.
 use Rattle.std.specs.Prelude.{◌≡◌, ◌≢◌, ℕ, ◌<◌, ◌^◌, List, [], ◌∷◌, ◌++◌, length}
 use Rattle.std.specs.Int.{to_be_bytes, w32}
 
--- the length of a payload, in four bytes, and the payload
+-- the length of a payload, and the payload; the next gate isn't among these bytes
 abbrev pub frame : List ℕ → List ℕ
 frame payload = to_be_bytes w32 (length payload) ++ payload
 
@@ -16,7 +17,7 @@ pub record OpensFrame (bytes payload rest : List ℕ) : Type 0 where
 abbrev pub OpensNone : List ℕ → Type 0
 OpensNone bytes = (payload rest : List ℕ) → OpensFrame bytes payload rest → ⊥
 
--- open gates and their frames, one after another
+-- open gates and the frames behind them, one after another, up to the last one's next gate
 abbrev pub opened : List (List ℕ) → List ℕ
 opened [] = []
 opened (p ∷ ps) = 1 ∷ (frame p ++ opened ps)

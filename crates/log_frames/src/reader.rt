@@ -1,5 +1,5 @@
 // Reads a session file frame by frame.
-ghost use Rattle.std.specs.Prelude.{◌≡◌, ℕ, ◌+◌, ◌≤◌, List, length, drop, IfOk, IfSome, IsErrOf, OnErr, MatchOption};
+ghost use Rattle.std.specs.Prelude.{◌≡◌, ℕ, ◌+◌, ◌≤◌, List, length, max, drop, IfOk, IfSome, IsErrOf, OnErr, MatchOption};
 ghost use Rattle.mug_outside.specs.Cause.{Rose};
 ghost use Rattle.log_frames.specs.Frames.{frame};
 ghost use Rattle.log_frames.specs.Reading.{NextAt, NextTells, SaysSize};
@@ -69,6 +69,7 @@ impl FrameReader {
     pub fn next<D: Disk>(&mut self, disk: &mut D, payload: &mut Vec<u8>) -> Result<Next, FrameFault>
         ensures told { IfOk result (λ next. IfSome (D.held disk.old) (λ held. NextTells next (drop self.old held) payload.new.items (drop self.new held))) }
         ensures place { IfOk result (λ next. NextAt next self.old self.new (length payload.new.items)) }
+        ensures short { IfSome (D.held disk.old) (λ held. length payload.new.items ≤ max (length payload.old.items) (length held)) }
         ensures kept { OnErr result (self.new ≡ self.old) }
         ensures fault { IsErrOf result FrameFault.ReadFault → Rose (D.faults disk.old) (D.faults disk.new) }
         ensures later { D.faults disk.old ≤ D.faults disk.new }

@@ -1,5 +1,5 @@
 -- One frame more.
-use Rattle.std.proofs.Common.{◌≡◌, ◌≢◌, ℕ, ◌+◌, Bool, true, false, ◌==◌, List, [], ◌∷◌, ◌++◌, length, drop, map, refl, sym, ◌∙◌, ap, subst, arith, append_assoc, length-append}
+use Rattle.std.proofs.Common.{◌≡◌, ◌≢◌, ℕ, ◌+◌, ◌<◌, ◌^◌, Bool, true, false, ◌==◌, List, [], ◌∷◌, ◌++◌, length, drop, map, refl, sym, ◌∙◌, ap, subst, arith, append_assoc, length-append}
 use Rattle.std.proofs.lemmas.List.Elements.{All-head, All-tail, All-push, All-nil}
 use Rattle.std.proofs.lemmas.Bool.Decides.{nat_tests}
 use Rattle.std.proofs.lemmas.Grind.{flat_map-append}
@@ -7,9 +7,8 @@ use Rattle.std.proofs.lemmas.List.{append-nil, map-append}
 use Rattle.input_log.specs.Items.{IsItem}
 use Rattle.input_log.specs.declared.item.LogItem.{LogItem}
 use Rattle.input_log.proofs.Laws.{same_item}
-use Rattle.log_frames.specs.Frames.{OpensFrame, OpensNone, frame, opened}
+use Rattle.log_frames.specs.Frames.{OpensFrame, frame, opened}
 use Rattle.session_store.specs.Session.{AreInputs, AreItems, IsLog, MayFollow, items_of, magic, payload_of}
-use Rattle.session_store.specs.Recovery.{IsBroken, IsWhole}
 use Rattle.session_store.specs.Steps.{Follows, MayStand, SoFar}
 use Rattle.session_store.proofs.Items.{no_bytes}
 
@@ -81,6 +80,7 @@ further bytes payload old new at at' so_far opens next follows =
       frames = frames ++ group ∷ [];
       has = record {
         log = log-push frames group log follows.1;
+        sized = All-push (λ items. length (payload_of items) < 2 ^ 32) frames group so_far.has.sized (subst (λ (l : List ℕ). length l < 2 ^ 32) follows.2 opens.sized);
         gate = opens.gate;
         is = so_far.has.is ∙ ap (λ (l : List ℕ). magic ++ l)
             (ap (λ (l : List ℕ). opened (map payload_of frames) ++ l) opens.is ∙ sym (opened-push (map payload_of frames) payload (drop at' bytes))
@@ -90,27 +90,3 @@ further bytes payload old new at at' so_far opens next follows =
           ∙ sym (flat_map-append (λ (items : List LogItem). items) frames (group ∷ []) ∙ ap (λ (l : List LogItem). items_of frames ++ l) (append-nil group));
       place = omega (arith, so_far.place, next, length-opened-push (map payload_of frames) payload, ap (λ (l : List (List ℕ)). length (opened l)) payloads);
     }
-
--- a frame that doesn't read
-pub broken : (bytes payload : List ℕ) (old : List LogItem) (at at' from : ℕ) → (so_far : SoFar bytes old at) → OpensFrame (drop at bytes) payload (drop at' bytes) → from ≡ at + 1
-    → ((group : List LogItem) → MayFollow so_far.frames group → payload ≢ payload_of group) → IsBroken bytes from payload
-broken bytes payload old at at' from so_far opens place unread = record {
-  frames = so_far.frames;
-  rest = drop at bytes;
-  has = so_far.has;
-  place = place ∙ so_far.place;
-  after = drop at' bytes;
-  opens = opens;
-  unread = unread;
-}
-
--- no further frame
-pub whole : (bytes : List ℕ) (items : List LogItem) (at end : ℕ) → SoFar bytes items at → OpensNone (drop at bytes) → end ≡ at + 1 → IsWhole bytes items end
-whole bytes items at end so_far none place = record {
-  frames = so_far.frames;
-  rest = drop at bytes;
-  has = so_far.has;
-  items_are = so_far.items_are;
-  place = place ∙ so_far.place;
-  ends = none;
-}

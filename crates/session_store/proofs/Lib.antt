@@ -1,3 +1,4 @@
 pub mod Items
 pub mod Frames
 pub mod Told
+pub mod Unique

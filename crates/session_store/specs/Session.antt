@@ -26,12 +26,14 @@ items_of frames = flat_map (λ items. items) frames
 abbrev pub AreItems : List LogItem → Type 0
 AreItems items = All IsItem items
 
+-- the item that begins a session
 abbrev pub is_head : LogItem → Bool
 is_head (Head base budget page) = true
 is_head (Load t) = false
 is_head (Now v) = false
 is_head (Rand w) = false
 
+-- what a page is given while it runs: a turn, a reading of the clock, a random word
 abbrev pub is_input : LogItem → Bool
 is_input (Head base budget page) = false
 is_input (Load t) = true

@@ -5,13 +5,14 @@ use Rattle.session_store.specs.declared.recovery.Session.{Session}
 use Rattle.session_store.specs.declared.recovery.RecoverFault.{RecoverFault}
 use Rattle.session_store.specs.declared.recovery.RecoverFault.TheVariants.{NotASession, Damaged, DiskFault, NoMemory}
 
+-- a fault of the bytes is what recovery finds in them; the others say nothing of the bytes
 abbrev pub Refuses : RecoverFault → List ℕ → Type 0
 Refuses NotASession bytes = Recovers bytes NoHeader
 Refuses (Damaged at) bytes = (payload : List ℕ) × Recovers bytes (Broken at payload)
 Refuses DiskFault bytes = Unit {0}
 Refuses NoMemory bytes = Unit {0}
 
--- by the bytes that the disk holds
+-- an answer is what recovery finds in the bytes that the disk holds
 abbrev pub Tells : Result Session RecoverFault → List ℕ → Type 0
 Tells (Ok session) bytes = Recovers bytes (Whole session.items session.end)
 Tells (Err fault) bytes = Refuses fault bytes
