@@ -2,7 +2,7 @@
 use Rattle.std.proofs.Common.{◌≡◌, ◌≢◌, ℕ, ◌+◌, ◌-◌, ◌<◌, ◌≤◌, List, [], ◌∷◌, ◌++◌, length, take, drop, Some, None, Option, IfSome, sym, ◌∙◌, ap, subst, arith, append_assoc, length-drop}
 use Rattle.std.specs.Int.{to_be_bytes, w32}
 use Rattle.std.proofs.lemmas.List.{take-append-drop, drop-drop, length-take-le, take_all}
-use Rattle.log_frames.specs.Frames.{OpensFrame}
+use Rattle.log_frames.specs.Frames.{OpensFrame, OpensNone}
 use Rattle.log_frames.specs.Reading.{SaysSize}
 
 pub some_of : (xs : List ℕ) → 0 < length xs → xs ≢ []
@@ -31,14 +31,16 @@ pub got_all : (h piece : List ℕ) (p got : ℕ) → take got piece ≡ take (le
 got_all h piece p got is fits long =
     sym (length-take-le got piece fits) ∙ ap length is ∙ length-take-le (length piece) (drop p h) (omega (arith, length-drop p h))
 
-pub no_loss : (P : List ℕ → Type 0) (o o' : Option (List ℕ)) (piece : List ℕ) (p got len : ℕ) → o' ≡ o → IfSome o (λ h. len ≡ length h) → IfSome o' (λ h. take got piece ≡ take (length piece) (drop p h))
-    → got < length piece → p + length piece < len → IfSome o P
-no_loss P None o' piece p got len same told read few long = tt
-no_loss P (Some h) None piece p got len same told read few long = absurd (cc)
-no_loss P (Some h) (Some k) piece p got len same told read few long =
+-- a read that ends within the file isn't short
+pub no_loss : (o o' : Option (List ℕ)) (piece : List ℕ) (start p got len : ℕ) → o' ≡ o → IfSome o (λ h. len ≡ length h) → IfSome o' (λ h. take got piece ≡ take (length piece) (drop p h))
+    → got < length piece → p + length piece < len → IfSome o (λ h. OpensNone (drop start h))
+no_loss None o' piece start p got len same told read few long = tt
+no_loss (Some h) None piece start p got len same told read few long = absurd (cc)
+no_loss (Some h) (Some k) piece start p got len same told read few long =
     let e : k ≡ h = cc in
     absurd (let e = got_all k piece p got read (omega arith) (omega (arith, ap length e)) in omega arith)
 
+-- what was read of a frame that ends within the file
 pub tell_whole : (o o' : Option (List ℕ)) (front piece payload : List ℕ) (start at p q n got size len : ℕ) → o' ≡ o → at ≡ start → p ≡ at + 5 → q ≡ p + size → payload ≡ piece → length piece ≡ size
     → IfSome o (λ h. len ≡ length h) → IfSome o (λ h. take n front ≡ take (length front) (drop at h)) → length front ≡ 5 → SaysSize (take n front) size → 5 + size < len - at
     → IfSome o' (λ h. take got piece ≡ take (length piece) (drop p h)) → length piece ≤ got → IfSome o (λ h. OpensFrame (drop start h) payload (drop q h))

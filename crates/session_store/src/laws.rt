@@ -8,12 +8,10 @@ ghost use Rattle.session_store.specs.Recovery.{Found, Recovers, Whole, place_beh
 /// In the same bytes recovery finds one thing.
 pub fn recovery_is_one()
     ensures { (bytes : List ℕ) (a b : Found) → Recovers bytes a → Recovers bytes b → a ≡ b }
-{
-}
+{}
 
 /// Frames that read, in front of a closed gate, are recovered, whatever stands behind that gate.
 pub fn logs_are_recovered()
     ensures { (frames : List (List LogItem)) (gate : ℕ) (rest : List ℕ) → IsLog frames → All (λ items. length (payload_of items) < 2 ^ 32) frames → gate ≢ 1
         → Recovers (magic ++ (opened (map payload_of frames) ++ gate ∷ rest)) (Whole (items_of frames) (place_behind frames)) }
-{
-}
+{}

@@ -7,7 +7,7 @@ pub returns-then-got-len-clause-told : goal.returns-then-got-len-clause-told
 returns-then-got-len-clause-told g c =
     let size_is : length c.read_at-2.new.into ≡ c.in-Some.size = search rules in
     let few : c.in-Ok-read_at-2.got < length c.read_at-2.new.into = search rules in
-    no_loss _ _ _ c.read_at-2.new.into _ c.in-Ok-read_at-2.got c.in-Ok.len (c.in-Ok-read_at.ensures.held ∙ c.in-Ok.ensures.held) c.in-Ok.ensures.told c.in-Ok-read_at-2.ensures.told few (omega arith)
+    no_loss _ _ c.read_at-2.new.into _ _ c.in-Ok-read_at-2.got c.in-Ok.len (c.in-Ok-read_at.ensures.held ∙ c.in-Ok.ensures.held) c.in-Ok.ensures.told c.in-Ok-read_at-2.ensures.told few (omega arith)
 
 pub returns-clause-told : goal.returns-clause-told
 returns-clause-told g c =
