@@ -3,6 +3,8 @@
 
 mod laws;
 mod recovery;
+#[cfg(test)]
+mod tests;
 
 pub use laws::{logs_are_recovered, recovery_is_one};
 pub use recovery::{RecoverFault, Session, recover};
