@@ -1,7 +1,7 @@
 use Rattle.std.proofs.Common.{◌≡◌, ◌∙◌, length, Err, ap, sym, arith, refl}
 use Rattle.mug_text.specs.Text.{utf8_of}
 use Rattle.input_log.specs.Items.{head_parts}
-use Rattle.input_log.proofs.Heads.{head_takes, units_fit, joined, no_budget, no_page, no_range, not_utf8}
+use Rattle.input_log.proofs.Heads.{head_takes, joined, no_budget, no_page, no_range, not_utf8}
 use Rattle.input_log.proofs.reading.head_at.Goals as goal
 use Rattle.input_log.proofs.reading.head_at.Goals.{then-budget-eq0-via-then-budget-eq0, then-budget-eq0-via-else-budget-eq0+then-budget-gt-BUDGET_LIMIT, then-budget-eq0-via-else-budget-eq0+else-budget-gt-BUDGET_LIMIT+then-page-gt-PAGE_LIMIT}
 
@@ -40,7 +40,7 @@ returns c =
       page = c.in_ok-page.page;
       rest = c.in-Some-sized_at.field-0-1.now;
       head = refl;
-      valid = (record { units = units_fit c.in-Ok.ensures.ok; well_formed = c.in-Ok.ensures.well_formed; sized = omega (arith, ap length whole, c.in-Some.ensures.0) }, omega arith, omega arith, omega (arith, ap length page));
+      valid = (record { units = c.in-Ok.ensures.units; well_formed = c.in-Ok.ensures.well_formed; sized = omega (arith, ap length whole, c.in-Some.ensures.0) }, omega arith, omega arith, omega (arith, ap length page));
       is = is ∙ (λ i. head_parts (sym whole i) c.in-Some-long_at.budget (sym page i) c.in-Some-sized_at.field-0-1.now);
       takes = head_takes c.in-Ok.base c.in-Some-long_at.budget c.in_ok-page.page _ _ whole page;
     }
