@@ -27,5 +27,5 @@ page_behind (Err fault) item old third last base number piece page budget is sam
 pub kept_behind : (old more front all : List ℕ) → front ≡ old ++ more → take (length front) all ≡ front → take (length old) all ≡ old
 kept_behind old more front all is kept =
     let split : all ≡ old ++ (more ++ drop (length front) all) =
-        sym (take-append-drop (length front) all) ∙ ap (λ (l : List ℕ). l ++ drop (length front) all) (kept ∙ is) ∙ append_assoc old more (drop (length front) all) in
+    sym (take-append-drop (length front) all) ∙ ap (λ (l : List ℕ). l ++ drop (length front) all) (kept ∙ is) ∙ append_assoc old more (drop (length front) all) in
     ap (take (length old)) split ∙ take_at old (more ++ drop (length front) all) (length old) refl
