@@ -1,15 +1,8 @@
 -- Bytes that are the parts of no head.
-use Rattle.std.proofs.Common.{◌≡◌, ◌≢◌, ℕ, ◌+◌, ◌<◌, ◌≤◌, ◌^◌, List, [], ◌∷◌, ◌++◌, length, sym, ◌∙◌, ap, arith, length-append, All, true, inl, inr, ◌-◌, ◌/◌, ◌%◌, take, drop, get_or, Result, Ok, Err, Option, Some, None, IfOk, MatchOption}
+use Rattle.std.proofs.Common.{◌≡◌, ◌≢◌, ℕ, ◌+◌, ◌<◌, ◌≤◌, ◌^◌, List, [], ◌∷◌, ◌++◌, length, sym, ◌∙◌, ap, arith, length-append, ◌-◌, take, drop, get_or, Result, Ok, Err, Option, Some, None, IfOk, MatchOption}
 use Rattle.std.specs.Int.{to_be_bytes, w32, w64}
-use Rattle.std.specs.List.{flat_map}
 use Rattle.std.proofs.lemmas.List.{take_all}
-use Rattle.std.specs.Str.{all_scalars}
-use Rattle.std.specs.Char.{IsScalar}
-use Rattle.std.specs.Char.Escape.{encode_utf16}
-use Rattle.std.proofs.lemmas.Bool.{and_parts, cond-true, cond-false, cases_lt, lt-ltb, le-ltb}
-use Rattle.std.proofs.lemmas.List.Elements.{All-append, All-cons, All-nil, All-same}
-use lib.Utf8.{scalar_cases}
-use Rattle.mug_text.specs.Text.{IsText, IsWellFormed, utf8_of}
+use Rattle.mug_text.specs.Text.{IsWellFormed, utf8_of}
 use Rattle.input_log.specs.Items.{BeginsWith, BeginsWithNone, HasHead, HasNoHead, encoding, head_parts, sized}
 use Rattle.input_log.specs.declared.item.LogItem.{LogItem}
 use Rattle.mug_text.specs.declared.memory.NoMemory.{NoMemory}

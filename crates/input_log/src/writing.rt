@@ -1,8 +1,8 @@
 // Items to bytes.
 ghost use Rattle.std.specs.Prelude.{◌≡◌, ◌<◌, ◌^◌, ◌∷◌, ◌++◌, length, take, OnOk, OnErr};
-ghost use Rattle.std.specs.Int.{to_be_bytes, w32, w64};
+ghost use Rattle.std.specs.Int.{to_be_bytes, w64};
 ghost use Rattle.mug_text.specs.Text.{utf8_of};
-ghost use Rattle.input_log.specs.Items.{IsItem, encoding, head_parts, sized};
+ghost use Rattle.input_log.specs.Items.{IsItem, encoding, sized};
 
 use crate::LogItem;
 use mug_text::{JText, NoMemory};
