@@ -1,15 +1,8 @@
 -- Bytes that are the parts of no head.
-use Rattle.std.proofs.Common.{◌≡◌, ◌≢◌, ℕ, ◌+◌, ◌<◌, ◌≤◌, ◌^◌, List, [], ◌∷◌, ◌++◌, length, sym, ◌∙◌, ap, arith, length-append, All, true, inl, inr, ◌-◌, ◌/◌, ◌%◌, take, drop, get_or, Result, Ok, Err, Option, Some, None, IfOk, MatchOption}
+use Rattle.std.proofs.Common.{◌≡◌, ◌≢◌, ℕ, ◌+◌, ◌<◌, ◌≤◌, ◌^◌, List, [], ◌∷◌, ◌++◌, length, sym, ◌∙◌, ap, arith, length-append, ◌-◌, take, drop, get_or, Result, Ok, Err, Option, Some, None, IfOk, MatchOption}
 use Rattle.std.specs.Int.{to_be_bytes, w32, w64}
-use Rattle.std.specs.List.{flat_map}
 use Rattle.std.proofs.lemmas.List.{take_all}
-use Rattle.std.specs.Str.{all_scalars}
-use Rattle.std.specs.Char.{IsScalar}
-use Rattle.std.specs.Char.Escape.{encode_utf16}
-use Rattle.std.proofs.lemmas.Bool.{and_parts, cond-true, cond-false, cases_lt, lt-ltb, le-ltb}
-use Rattle.std.proofs.lemmas.List.Elements.{All-append, All-cons, All-nil, All-same}
-use lib.Utf8.{scalar_cases}
-use Rattle.mug_text.specs.Text.{IsText, IsWellFormed, utf8_of}
+use Rattle.mug_text.specs.Text.{IsWellFormed, utf8_of}
 use Rattle.input_log.specs.Items.{BeginsWith, BeginsWithNone, HasHead, HasNoHead, encoding, head_parts, sized}
 use Rattle.input_log.specs.declared.item.LogItem.{LogItem}
 use Rattle.mug_text.specs.declared.memory.NoMemory.{NoMemory}
@@ -53,23 +46,6 @@ not_utf8 bytes text page rest number fits fits_number fits_page is none base bud
 pub head_takes : (base : List ℕ) (budget : ℕ) (page text piece : List ℕ) → utf8_of base ≡ text → page ≡ piece → 17 + length text + length piece ≡ length (encoding (Head base budget page))
 head_takes base budget page text piece whole same =
     omega (arith, ap length whole, ap length same, length-append (utf8_of base) (to_be_bytes w64 budget ++ sized page))
-
--- units are below 2^16
-unit_fits : (c : ℕ) → IsScalar c → All (λ u. u < 0x1_0000) (encode_utf16 c)
-unit_fits c valid = elim (cases_lt c 0x1_0000) [
-  | inl low ↦ All-same (λ u. u < 0x1_0000) _ (c ∷ []) (cond-true _ _ _ (lt-ltb c 0x1_0000 low)) (All-cons (λ u. u < 0x1_0000) c [] low (All-nil (λ u. u < 0x1_0000)))
-  | inr high ↦ All-same (λ u. u < 0x1_0000) _ ((0xD800 + (c - 0x1_0000) / 0x400) ∷ (0xDC00 + (c - 0x1_0000) % 0x400) ∷ []) (cond-false _ _ _ (le-ltb c 0x1_0000 high))
-      (All-cons (λ u. u < 0x1_0000) (0xD800 + (c - 0x1_0000) / 0x400) ((0xDC00 + (c - 0x1_0000) % 0x400) ∷ []) (elim (scalar_cases c valid) [ inl below ↦ omega arith | inr both ↦ omega (arith, both.1) ]) (All-cons (λ u. u < 0x1_0000) (0xDC00 + (c - 0x1_0000) % 0x400) [] (omega arith) (All-nil (λ u. u < 0x1_0000))))
-]
-
-all_fit : (cs : List ℕ) → all_scalars cs ≡ true → All (λ u. u < 0x1_0000) (flat_map encode_utf16 cs)
-all_fit [] valid = All-nil (λ u. u < 0x1_0000)
-all_fit (c ∷ cs) valid =
-    let both = and_parts _ _ valid in
-    All-append (λ u. u < 0x1_0000) (encode_utf16 c) (flat_map encode_utf16 cs) (unit_fits c both.0) (all_fit cs both.1)
-
-pub units_fit : {bytes units : List ℕ} → IsText bytes units → All (λ u. u < 0x1_0000) units
-units_fit text = All-same (λ u. u < 0x1_0000) _ (flat_map encode_utf16 text.points) text.units_are (all_fit text.points text.scalars)
 
 -- bytes behind a first byte
 pub begins : (bytes behind : List ℕ) (b : ℕ) → 1 ≤ length bytes → get_or bytes 0 0 ≡ b → behind ≡ take (length bytes - 1) (drop 1 bytes) → bytes ≡ b ∷ behind

@@ -2,7 +2,14 @@
 #![tactic(auto)]
 
 mod item;
+mod promises;
 mod reading;
+mod writing;
 
 pub use item::LogItem;
+pub use promises::{no_item_begins_another, what_decodes_encodes_back, what_is_encoded_decodes};
 pub use reading::decode;
+pub use writing::{encode, encoded_len};
+
+#[cfg(test)]
+mod tests;

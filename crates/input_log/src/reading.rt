@@ -1,5 +1,5 @@
 // Items from bytes.
-ghost use Rattle.std.specs.Prelude.{◌≡◌, ◌≢◌, ℕ, ◌+◌, ◌<◌, ◌≤◌, ◌^◌, List, [], ◌++◌, length, IfOk, MatchOption};
+ghost use Rattle.std.specs.Prelude.{◌≡◌, ◌≢◌, ℕ, ◌<◌, ◌^◌, List, ◌++◌, length, IfOk, MatchOption};
 ghost use Rattle.std.specs.Int.{to_be_bytes, w32, w64};
 ghost use Rattle.input_log.specs.Items.{BeginsWith, BeginsWithNone, HasHead, HasNoHead, sized};
 
@@ -9,6 +9,9 @@ use std::alloc::Global;
 
 /// The most bytes that a head's page has: 4 MiB, and the 450 of the inserted script.
 const PAGE_LIMIT: usize = 4_194_754;
+
+/// The fewest page steps that a budget has.
+const BUDGET_LEAST: u64 = 1;
 
 /// The most page steps that a budget has.
 const BUDGET_LIMIT: u64 = 1_000_000_000;
@@ -72,7 +75,7 @@ fn head_at(alloc: Global, bytes: &[u8]) -> Result<Option<(LogItem, usize)>, NoMe
     let Some((page, _)) = sized_at(rest) else {
         return Ok(None);
     };
-    if budget == 0 || budget > BUDGET_LIMIT || page.len() > PAGE_LIMIT {
+    if budget < BUDGET_LEAST || budget > BUDGET_LIMIT || page.len() > PAGE_LIMIT {
         return Ok(None);
     }
     let size = 17 + base.len() + page.len();

@@ -1,21 +1,22 @@
 -- What std's decoder of units says, in code points.
-use Rattle.std.proofs.Common.{◌≡◌, ℕ, ◌<◌, ◌≤◌, ⊎_elim, false, List, [], ◌∷◌, ◌++◌, Option, Some, None, Ok, Err, refl, sym, ap, ◌∙◌, arith, MatchOption, IfSome, IsSomeAnd}
+use Rattle.std.proofs.Common.{◌≡◌, ℕ, ◌<◌, ◌≤◌, ⊎_elim, false, List, [], ◌∷◌, ◌++◌, Option, Some, None, Result, Ok, Err, refl, sym, ap, ◌∙◌, append_assoc, arith, MatchOption, IfSome, IfOk, IsSomeAnd}
 use Rattle.std.specs.declared.iter.Copied.{Copied}
 use Rattle.std.specs.declared.slice.Iter.{Iter}
 use Rattle.std.specs.declared.char.DecodeUtf16.{DecodeUtf16}
 use Rattle.std.specs.declared.char.DecodeUtf16Error.{DecodeUtf16Error}
 use Rattle.std.specs.Slice.Iter.{iter_rest}
 use Rattle.std.specs.Option.{option_copied}
+use Rattle.std.specs.Result.{result_unwrap_or}
 use Rattle.std.specs.Iterator.Adapters.{copied_source, copied_steps, peekable_source, peekable_peeked, peekable_steps}
-use Rattle.std.specs.Char.{IsScalar}
+use Rattle.std.specs.Char.{IsScalar, encode_utf8}
 use Rattle.std.specs.Char.Escape.{encode_utf16}
 use Rattle.std.specs.Char.Utf16.{decode_utf16_units, decode_utf16_steps, unpaired_surrogate, is_low_surrogate}
 use Rattle.std.proofs.iter.Yields.{fronts}
 use Rattle.std.proofs.lemmas.List.{nil_from_length}
 use Rattle.std.proofs.lemmas.Bool.{cases_lt}
 use denote.Ref.{Bor}
-use Rattle.mug_text.specs.Text.{joined, code_points}
-use Rattle.mug_text.proofs.Texts.{code_points-encode, joined_apart, joined_low}
+use Rattle.mug_text.specs.Text.{joined, code_points, utf8_of}
+use Rattle.mug_text.proofs.Texts.{code_points-encode, joined_apart, joined_low, bytes_past_point, or_replacement-scalar, or_replacement-surrogate}
 
 abbrev Source : Type 0
 Source = Copied (Iter ℕ)
@@ -98,3 +99,18 @@ decoded_lone s t e step = (
 
     alone : joined step.0 (code_points (units_left t)) ≡ step.0 ∷ code_points (units_left t)
     alone = ⊎_elim (λ below. unpaired step.0 _ _ (step.3.1.3 below).1) (λ from. joined_low step.0 _ from) (cases_lt step.0 0xDC00)
+
+-- what a character or a surrogate without a partner leaves of the bytes
+pub decoded_bytes : (s t : DecodeUtf16 Source) (r : Result ℕ DecodeUtf16Error) → IfOk r IsScalar → decode_utf16_steps (copied_steps fronts) s (Some r) t
+    → utf8_of (units_left s) ≡ encode_utf8 (result_unwrap_or r 0xFFFD) ++ utf8_of (units_left t)
+decoded_bytes s t (Ok c) is step =
+    bytes_past_point (units_left s) (units_left t) c (decoded_char s t c is step) ∙ ap (λ p. encode_utf8 p ++ utf8_of (units_left t)) (or_replacement-scalar c is)
+decoded_bytes s t (Err e) is step =
+    let lone = decoded_lone s t e step in
+    bytes_past_point (units_left s) (units_left t) (unpaired_surrogate e) lone.0 ∙ ap (λ p. encode_utf8 p ++ utf8_of (units_left t)) (or_replacement-surrogate (unpaired_surrogate e) lone.1 lone.2)
+
+-- one more piece is appended
+pub one_more : {before after all : List ℕ} (old shown piece rest : List ℕ) → before ≡ old ++ shown → after ≡ before ++ piece → shown ++ (piece ++ rest) ≡ all
+    → (x : List ℕ) × (after ≡ old ++ x) × (x ++ rest ≡ all)
+one_more old shown piece rest so_far more then =
+    (shown ++ piece, more ∙ ap (λ l. l ++ piece) so_far ∙ append_assoc old shown piece, append_assoc shown piece rest ∙ then)

@@ -1,13 +1,14 @@
 -- Laws of texts: a text is determined by its bytes and by its code points, and no text's bytes stop.
-use Rattle.std.proofs.Common.{◌≡◌, ◌≢◌, ℕ, ◌+◌, ◌-◌, ◌/◌, ◌%◌, ◌<◌, ◌≤◌, ◌⊎◌, inl, inr, ⊎_elim, true, false, ◌&&◌, if◌then◌else◌, List, [], ◌∷◌, ◌++◌, map, All, refl, sym, ap, subst, ◌∙◌, append_assoc, arith, length, length-append}
+use Rattle.std.proofs.Common.{◌≡◌, ◌≢◌, ℕ, ◌+◌, ◌-◌, ◌*◌, ◌/◌, ◌%◌, ◌<◌, ◌≤◌, ◌⊎◌, inl, inr, ⊎_elim, true, false, ◌&&◌, if◌then◌else◌, List, [], ◌∷◌, ◌++◌, map, All, refl, sym, ap, subst, ◌∙◌, append_assoc, arith, length, length-append}
 use Rattle.std.specs.List.{flat_map}
 use Rattle.std.specs.Str.{all_scalars, encode_utf8_all, StartsWithNoChar}
 use Rattle.std.specs.Char.{IsScalar, encode_utf8}
 use Rattle.std.specs.Char.Escape.{encode_utf16}
 use Rattle.std.specs.Char.Utf16.{is_high_surrogate, is_low_surrogate, surrogate_pair_char}
 use Rattle.std.proofs.lemmas.Bool.{ltb-true, leb-true, lt-ltb, le-ltb, lt-leb, le-leb, and_parts, and_from, and_left, and_right, cond_both, cond-true, cond-false, cases_lt}
-use Rattle.std.proofs.lemmas.List.Elements.{All-head, All-tail}
-use Rattle.std.proofs.lemmas.Str.{encodes_same, encode_same, cons_from_encodes}
+use Rattle.std.proofs.lemmas.Bool.Decides.{nat_tests}
+use Rattle.std.proofs.lemmas.List.Elements.{All-append, All-cons, All-head, All-nil, All-same, All-tail}
+use Rattle.std.proofs.lemmas.Str.{encodes_same, encode_same, cons_from_encodes, length-encode, len_utf8_bounds}
 use lib.Utf8.{scalar, scalar_cases}
 use Rattle.mug_text.specs.Text.{IsText, StopsAt, joined, code_points, IsWellFormed, utf8_of}
 
@@ -116,6 +117,12 @@ encodes-code_points (u ∷ us) small =
 abbrev pub or_replacement : ℕ → ℕ
 or_replacement c = if scalar c then c else 0xFFFD
 
+pub or_replacement-scalar : (c : ℕ) → IsScalar c → or_replacement c ≡ c
+or_replacement-scalar c is = cond-true _ _ _ is
+
+pub or_replacement-surrogate : (c : ℕ) → 0xD800 ≤ c → c < 0xE000 → or_replacement c ≡ 0xFFFD
+or_replacement-surrogate c from below = grind (arith, nat_tests)
+
 same_points : (cs : List ℕ) → all_scalars cs ≡ true → map or_replacement cs ≡ cs
 same_points [] are = refl
 same_points (c ∷ cs) are =
@@ -125,6 +132,29 @@ same_points (c ∷ cs) are =
 
 pub utf8_of-well_formed : (t : List ℕ) → IsWellFormed t → utf8_of t ≡ encode_utf8_all (code_points t)
 utf8_of-well_formed t well = ap encode_utf8_all (same_points (code_points t) well)
+
+-- the bytes of a code point, in front of others
+pub bytes_past_point : (t u : List ℕ) (p : ℕ) → code_points t ≡ p ∷ code_points u → utf8_of t ≡ encode_utf8 (or_replacement p) ++ utf8_of u
+bytes_past_point t u p same = ap (λ cs. encode_utf8_all (map or_replacement cs)) same
+
+few_bytes : (c : ℕ) → length (encode_utf8 c) ≤ 4
+few_bytes c = omega (arith, length-encode c, (len_utf8_bounds c).1)
+
+one_point : (p : ℕ) (cs : List ℕ) → length (encode_utf8_all (map or_replacement (p ∷ cs))) ≤ 4 + length (encode_utf8_all (map or_replacement cs))
+one_point p cs = omega (arith, few_bytes (or_replacement p), length-append (encode_utf8 (or_replacement p)) (encode_utf8_all (map or_replacement cs)))
+
+-- a unit adds four bytes at most
+joined_bytes : (u : ℕ) (cs : List ℕ) → length (encode_utf8_all (map or_replacement (joined u cs))) ≤ 4 + length (encode_utf8_all (map or_replacement cs))
+joined_bytes u [] = one_point u []
+joined_bytes u (c ∷ cs) =
+    let P : List ℕ → Type 0 = λ l. length (encode_utf8_all (map or_replacement l)) ≤ 4 + length (encode_utf8_all (map or_replacement (c ∷ cs))) in
+    cond_both (is_high_surrogate u && is_low_surrogate c) (surrogate_pair_char u c ∷ cs) (u ∷ c ∷ cs) P
+    (λ _. omega (arith, one_point (surrogate_pair_char u c) cs, length-append (encode_utf8 (or_replacement c)) (encode_utf8_all (map or_replacement cs))))
+    (λ _. one_point u (c ∷ cs))
+
+pub utf8_of-bound : (t : List ℕ) → length (utf8_of t) ≤ 4 * length t
+utf8_of-bound [] = omega arith
+utf8_of-bound (u ∷ us) = omega (arith, joined_bytes u (code_points us), utf8_of-bound us)
 
 -- what follows a text in a text is one
 rest_is_text : (cs ds rest : List ℕ) → encode_utf8_all cs ≡ encode_utf8_all ds ++ rest → (es : List ℕ) × (all_scalars cs ≡ true → all_scalars es ≡ true) × (encode_utf8_all es ≡ rest)
@@ -176,6 +206,22 @@ well_formed text =
 pub bytes_back : {bytes units : List ℕ} → IsText bytes units → utf8_of units ≡ bytes
 bytes_back {bytes} {units} text =
     utf8_of-well_formed units (well_formed text) ∙ ap (λ l. encode_utf8_all (code_points l)) text.units_are ∙ ap encode_utf8_all (code_points-encodes text.points text.scalars) ∙ sym text.bytes_are
+
+unit_fits : (c : ℕ) → IsScalar c → All (λ u. u < 0x1_0000) (encode_utf16 c)
+unit_fits c valid = elim (cases_lt c 0x1_0000) [
+  | inl low ↦ All-same (λ u. u < 0x1_0000) _ (c ∷ []) (narrow_units c low) (All-cons (λ u. u < 0x1_0000) c [] low (All-nil (λ u. u < 0x1_0000)))
+  | inr high ↦ All-same (λ u. u < 0x1_0000) _ ((0xD800 + (c - 0x1_0000) / 0x400) ∷ (0xDC00 + (c - 0x1_0000) % 0x400) ∷ []) (wide_units c high)
+      (All-cons (λ u. u < 0x1_0000) (0xD800 + (c - 0x1_0000) / 0x400) ((0xDC00 + (c - 0x1_0000) % 0x400) ∷ []) (omega (arith, scalar_small c valid)) (All-cons (λ u. u < 0x1_0000) (0xDC00 + (c - 0x1_0000) % 0x400) [] (omega arith) (All-nil (λ u. u < 0x1_0000))))
+]
+
+all_fit : (cs : List ℕ) → all_scalars cs ≡ true → All (λ u. u < 0x1_0000) (flat_map encode_utf16 cs)
+all_fit [] are = All-nil (λ u. u < 0x1_0000)
+all_fit (c ∷ cs) are =
+    let parts = and_parts (scalar c) (all_scalars cs) are in
+    All-append (λ u. u < 0x1_0000) (encode_utf16 c) (flat_map encode_utf16 cs) (unit_fits c parts.0) (all_fit cs parts.1)
+
+pub units_fit : {bytes units : List ℕ} → IsText bytes units → All (λ u. u < 0x1_0000) units
+units_fit text = All-same (λ u. u < 0x1_0000) _ (flat_map encode_utf16 text.points) text.units_are (all_fit text.points text.scalars)
 
 -- bytes have the units of one text at most
 pub same_units : {bytes t u : List ℕ} → IsText bytes t → IsText bytes u → t ≡ u

@@ -6,6 +6,7 @@ mod listed;
 mod memory;
 mod shown;
 mod text;
+mod utf8;
 
 pub use bytes::Bytes;
 pub use listed::Listed;

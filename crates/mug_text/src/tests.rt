@@ -47,6 +47,17 @@ fn the_first_byte_that_begins_no_sequence_is_named(rt: HostRuntime) {
 }
 
 #[test]
+fn texts_are_written_as_they_were_read(rt: HostRuntime) -> Result<(), Fail> {
+    let text = JText::from_utf8(rt.alloc(), b"a\\\x7F\xC3\xA9\xE2\x82\xAC\xF0\x9F\x98\x80")?;
+    let mut out = b"> ".to_vec(rt.alloc())?;
+    text.to_utf8(&mut out)?;
+    let want = b"> a\\\x7F\xC3\xA9\xE2\x82\xAC\xF0\x9F\x98\x80";
+    assert_eq!(rt; out.as_slice(), want.as_slice());
+    assert_eq!(rt; text.utf8_len(), 12usize);
+    Ok(())
+}
+
+#[test]
 fn what_does_not_print_is_shown_escaped(rt: HostRuntime) -> Result<(), Fail> {
     let text = JText::from_utf8(rt.alloc(), b"a\\\n\x01\x7F\xC3\xA9\xF0\x9F\x98\x80")?;
     let mut out = b"> ".to_vec(rt.alloc())?;

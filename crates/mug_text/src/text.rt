@@ -5,6 +5,7 @@ ghost use Rattle.mug_text.specs.TextFault.{Refuses};
 
 use crate::NoMemory;
 use crate::shown::push_text;
+use crate::utf8::{count_utf8, push_utf8};
 use std::alloc::{AllocError, Global};
 use std::marker::Model;
 use std::rc::RcSlice;
@@ -51,6 +52,7 @@ impl JText {
     pub fn from_utf8(alloc: Global, bytes: &[u8]) -> Result<JText, TextFault>
         ensures ok { IfOk result (λ text. IsText bytes.now text) }
         ensures well_formed { IfOk result (λ text. IsWellFormed text) }
+        ensures units { IfOk result (λ text. All (λ unit. unit < 0x1_0000) text) }
         ensures whole { IfOk result (λ text. utf8_of text ≡ bytes.now) }
         ensures unique { IfOk result (λ text. (t : List ℕ) → All (λ unit. unit < 0x1_0000) t → IsWellFormed t → utf8_of t ≡ bytes.now → t ≡ text) }
 
@@ -89,6 +91,26 @@ impl JText {
         ensures { result ≡ slice_index self.now index }
     {
         self.units.as_slice()[index]
+    }
+
+    /// Appends the text in UTF-8, with U+FFFD for each surrogate without a partner.
+    pub fn to_utf8(&self, out: &mut Vec<u8>) -> Result<(), NoMemory>
+        ensures ok { OnOk result (out.new.items ≡ out.old.items ++ utf8_of self.now) }
+        ensures err { OnErr result (out.new.items ≡ out.old.items) }
+    {
+        let before = out.len();
+        let pushed = push_utf8(self.units.as_slice(), out);
+        if pushed.is_err() {
+            out.truncate(before);
+        }
+        pushed
+    }
+
+    /// The number of bytes that `to_utf8` appends.
+    pub fn utf8_len(&self) -> usize
+        ensures { result ≡ length (utf8_of self.now) }
+    {
+        count_utf8(self.units.as_slice())
     }
 
     /// Appends the text in UTF-8, with escapes for what does not print.

@@ -1,9 +1,9 @@
 use Rattle.std.proofs.Common.{◌≡◌, ◌∙◌, length, Err, ap, sym, arith, refl}
 use Rattle.mug_text.specs.Text.{utf8_of}
 use Rattle.input_log.specs.Items.{head_parts}
-use Rattle.input_log.proofs.Heads.{head_takes, units_fit, joined, no_budget, no_page, no_range, not_utf8}
+use Rattle.input_log.proofs.Heads.{head_takes, joined, no_budget, no_page, no_range, not_utf8}
 use Rattle.input_log.proofs.reading.head_at.Goals as goal
-use Rattle.input_log.proofs.reading.head_at.Goals.{then-budget-eq0-via-then-budget-eq0, then-budget-eq0-via-else-budget-eq0+then-budget-gt-BUDGET_LIMIT, then-budget-eq0-via-else-budget-eq0+else-budget-gt-BUDGET_LIMIT+then-page-gt-PAGE_LIMIT}
+use Rattle.input_log.proofs.reading.head_at.Goals.{then-budget-lt-BUDGET_LEAST-via-then-budget-lt-BUDGET_LEAST, then-budget-lt-BUDGET_LEAST-via-else-budget-lt-BUDGET_LEAST+then-budget-gt-BUDGET_LIMIT, then-budget-lt-BUDGET_LEAST-via-else-budget-lt-BUDGET_LEAST+else-budget-gt-BUDGET_LIMIT+then-page-gt-PAGE_LIMIT}
 
 pub returns-in_default-long_at : goal.returns-in_default-long_at
 returns-in_default-long_at c =
@@ -13,14 +13,14 @@ pub returns-in_default-sized_at : goal.returns-in_default-sized_at
 returns-in_default-sized_at c =
     no_page c.args.bytes.now c.in-Some.base.now c.in-Some.rest.now c.in-Some-long_at.rest.now c.in-Some-long_at.budget c.in-Some.ensures.0 c.in-Some-long_at.ensures.0 c.in-Some.ensures.1 c.in-Some-long_at.ensures.1 c.in_default-sized_at.ensures
 
-pub returns-then-budget-eq0 : goal.returns-then-budget-eq0
-returns-then-budget-eq0 c =
+pub returns-then-budget-lt-BUDGET_LEAST : goal.returns-then-budget-lt-BUDGET_LEAST
+returns-then-budget-lt-BUDGET_LEAST c =
     let is = joined c.args.bytes.now c.in-Some.base.now c.in-Some.rest.now c.in-Some-long_at.rest.now c.in-Some-sized_at.page.now c.in-Some-sized_at.field-0-1.now c.in-Some-long_at.budget c.in-Some.ensures.1 c.in-Some-long_at.ensures.1 c.in-Some-sized_at.ensures.1 in
     no_range c.args.bytes.now c.in-Some.base.now c.in-Some-sized_at.page.now c.in-Some-sized_at.field-0-1.now c.in-Some-long_at.budget c.in-Some.ensures.0 c.in-Some-long_at.ensures.0 c.in-Some-sized_at.ensures.0 is (λ least most short.
-    elim c.then-budget-eq0.branch [
-      | then-budget-eq0-via-then-budget-eq0 w ↦ omega arith
-      | then-budget-eq0-via-else-budget-eq0+then-budget-gt-BUDGET_LIMIT w ↦ omega arith
-      | then-budget-eq0-via-else-budget-eq0+else-budget-gt-BUDGET_LIMIT+then-page-gt-PAGE_LIMIT w ↦ omega arith
+    elim c.then-budget-lt-BUDGET_LEAST.branch [
+      | then-budget-lt-BUDGET_LEAST-via-then-budget-lt-BUDGET_LEAST w ↦ omega arith
+      | then-budget-lt-BUDGET_LEAST-via-else-budget-lt-BUDGET_LEAST+then-budget-gt-BUDGET_LIMIT w ↦ omega arith
+      | then-budget-lt-BUDGET_LEAST-via-else-budget-lt-BUDGET_LEAST+else-budget-gt-BUDGET_LIMIT+then-page-gt-PAGE_LIMIT w ↦ omega arith
     ])
 
 pub returns-in-Err-NotUtf8 : goal.returns-in-Err-NotUtf8
@@ -40,7 +40,7 @@ returns c =
       page = c.in_ok-page.page;
       rest = c.in-Some-sized_at.field-0-1.now;
       head = refl;
-      valid = (record { units = units_fit c.in-Ok.ensures.ok; well_formed = c.in-Ok.ensures.well_formed; sized = omega (arith, ap length whole, c.in-Some.ensures.0) }, omega arith, omega arith, omega (arith, ap length page));
+      valid = (record { units = c.in-Ok.ensures.units; well_formed = c.in-Ok.ensures.well_formed; sized = omega (arith, ap length whole, c.in-Some.ensures.0) }, omega arith, omega arith, omega (arith, ap length page));
       is = is ∙ (λ i. head_parts (sym whole i) c.in-Some-long_at.budget (sym page i) c.in-Some-sized_at.field-0-1.now);
       takes = head_takes c.in-Ok.base c.in-Some-long_at.budget c.in_ok-page.page _ _ whole page;
     }

@@ -1,4 +1,4 @@
-use Rattle.std.proofs.Common.{◌≡◌, ℕ, ◌<◌, ◌≤◌, List, ◌++◌, Some, codes, ap, sym, subst, ◌∙◌, append_assoc, rules, arith}
+use Rattle.std.proofs.Common.{◌≡◌, ℕ, ◌<◌, ◌≤◌, ◌++◌, Some, codes, ap, sym, subst, ◌∙◌, rules, arith}
 use Rattle.std.specs.List.{flat_map}
 use Rattle.std.specs.Iterator.Adapters.{copied_steps}
 use Rattle.std.specs.Char.{IsScalar}
@@ -6,16 +6,11 @@ use Rattle.std.specs.Char.Utf16.{decode_utf16_steps}
 use Rattle.std.proofs.iter.Yields.{fronts}
 use Rattle.std.proofs.lemmas.Bool.Decides.{nat_tests}
 use Rattle.mug_text.specs.Text.{four_digits, shown_point}
-use Rattle.mug_text.proofs.Decoding.{decoded_char, decoded_lone}
+use Rattle.mug_text.proofs.Decoding.{decoded_char, decoded_lone, one_more}
 use Rattle.mug_text.proofs.shown.push_text.Goals as goal
 
 shown_surrogate : (u : ℕ) → 0xD800 ≤ u → u < 0xE000 → shown_point u ≡ codes "\\u" ++ four_digits u
 shown_surrogate u from below = grind (arith, nat_tests)
-
-one_more : {before after all : List ℕ} (old shown piece rest : List ℕ) → before ≡ old ++ shown → after ≡ before ++ piece → shown ++ (piece ++ rest) ≡ all
-    → (x : List ℕ) × (after ≡ old ++ x) × (x ++ rest ≡ all)
-one_more old shown piece rest so_far more then =
-    (shown ++ piece, more ∙ ap (λ l. l ++ piece) so_far ∙ append_assoc old shown piece, append_assoc shown piece rest ∙ then)
 
 pub loop-decoded-preserved-in-Continue-1 : goal.loop-decoded-preserved-in-Continue-1
 loop-decoded-preserved-in-Continue-1 c =

@@ -1,5 +1,5 @@
 use Rattle.std.proofs.Common.{◌∙◌}
-use Rattle.mug_text.proofs.Texts.{well_formed, bytes_back, only_text, text_or_stop}
+use Rattle.mug_text.proofs.Texts.{well_formed, units_fit, bytes_back, only_text, text_or_stop}
 use Rattle.mug_text.proofs.Reading.{text_from_collected, stops_from_valid}
 use Rattle.mug_text.proofs.text.JText.from_utf8.Goals as goal
 
@@ -9,6 +9,9 @@ returns-in_ok-units-in-Ok-clause-ok c =
 
 pub returns-in_ok-units-in-Ok-clause-well_formed : goal.returns-in_ok-units-in-Ok-clause-well_formed
 returns-in_ok-units-in-Ok-clause-well_formed c = well_formed (returns-in_ok-units-in-Ok-clause-ok c)
+
+pub returns-in_ok-units-in-Ok-clause-units : goal.returns-in_ok-units-in-Ok-clause-units
+returns-in_ok-units-in-Ok-clause-units c = units_fit (returns-in_ok-units-in-Ok-clause-ok c)
 
 pub returns-in_ok-units-in-Ok-clause-whole : goal.returns-in_ok-units-in-Ok-clause-whole
 returns-in_ok-units-in-Ok-clause-whole c = bytes_back (returns-in_ok-units-in-Ok-clause-ok c)
