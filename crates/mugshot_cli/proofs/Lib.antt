@@ -1,0 +1,5 @@
+pub mod Pairs
+pub mod Lines
+pub mod Told
+pub mod Unread
+pub mod Complete

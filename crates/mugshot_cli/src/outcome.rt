@@ -1,0 +1,90 @@
+// What a command came to.
+ghost use Rattle.std.specs.Prelude.{◌≡◌};
+ghost use Rattle.mugshot_cli.specs.Outcome.{code_of, status_of};
+
+/// What a command came to, with what its line says.
+#[derive(Clone, Copy, Debug, PartialEq, Eq)]
+pub enum Outcome {
+    Done,
+    Usage,
+    NotASession,
+    /// With the offset of the length of the first frame that doesn't read.
+    Damaged { at: u64 },
+    NotBuilt,
+    DiskFault,
+    WriteFault,
+    NoMemory,
+}
+
+/// How the program ends.
+#[derive(Clone, Copy, Debug, PartialEq, Eq)]
+pub enum Status {
+    /// All was read, run and written.
+    Done,
+    /// The words are no command.
+    Usage,
+    BadPage,
+    BadArrivals,
+    Reserved,
+    Budget,
+    NotEmpty,
+    /// The file has no whole header.
+    NotASession,
+    /// A frame of the session doesn't read.
+    Damaged,
+    NoSuchStep,
+    Diverged,
+    Full,
+    ReadFault,
+    /// The disk failed.
+    DiskFault,
+    /// The output failed.
+    WriteFault,
+    NoMemory,
+    /// The file has what this version doesn't read yet.
+    NotBuilt,
+}
+
+impl Outcome {
+    pub fn status(self) -> Status
+        ensures { result ≡ status_of self }
+    {
+        match self {
+            Outcome::Done => Status::Done,
+            Outcome::Usage => Status::Usage,
+            Outcome::NotASession => Status::NotASession,
+            Outcome::Damaged { at: _ } => Status::Damaged,
+            Outcome::NotBuilt => Status::NotBuilt,
+            Outcome::DiskFault => Status::DiskFault,
+            Outcome::WriteFault => Status::WriteFault,
+            Outcome::NoMemory => Status::NoMemory,
+        }
+    }
+}
+
+impl Status {
+    /// The number with which the program ends.
+    pub fn code(&self) -> u8
+        ensures { result ≡ code_of self.now }
+    {
+        match self {
+            Status::Done => 0,
+            Status::Usage => 2,
+            Status::BadPage => 3,
+            Status::BadArrivals => 4,
+            Status::Reserved => 5,
+            Status::Budget => 6,
+            Status::NotEmpty => 7,
+            Status::NotASession => 8,
+            Status::Damaged => 9,
+            Status::NoSuchStep => 10,
+            Status::Diverged => 11,
+            Status::Full => 12,
+            Status::ReadFault => 20,
+            Status::DiskFault => 21,
+            Status::WriteFault => 22,
+            Status::NoMemory => 30,
+            Status::NotBuilt => 40,
+        }
+    }
+}
