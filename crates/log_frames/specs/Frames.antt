@@ -17,7 +17,7 @@ pub record OpensFrame (bytes payload rest : List ℕ) : Type 0 where
 abbrev pub OpensNone : List ℕ → Type 0
 OpensNone bytes = (payload rest : List ℕ) → OpensFrame bytes payload rest → ⊥
 
--- open gates and the frames behind them, one after another, up to the last one's next gate
+-- open gates and the frames behind them, one after another, without the last one's next gate
 abbrev pub opened : List (List ℕ) → List ℕ
 opened [] = []
 opened (p ∷ ps) = 1 ∷ (frame p ++ opened ps)

@@ -10,7 +10,7 @@ abbrev pub NextTells : Next → List ℕ → List ℕ → List ℕ → Type 0
 NextTells (Frame from) bytes payload rest = OpensFrame bytes payload rest
 NextTells End bytes payload rest = OpensNone bytes
 
--- a frame's length stands behind the reader's gate, which is now the next one, at an offset that isn't the last of a u64; or the reader stands still
+-- a frame's length stands just behind the reader's gate, and the reader now at the next gate just behind the payload, below the last offset of a u64; or it stands still
 abbrev pub NextAt : Next → ℕ → ℕ → ℕ → Type 0
 NextAt (Frame from) before now size = (from ≡ before + 1) × (now ≡ before + 5 + size) × (now < 18446744073709551615)
 NextAt End before now size = now ≡ before

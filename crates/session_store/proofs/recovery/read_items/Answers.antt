@@ -1,4 +1,4 @@
-use Rattle.std.proofs.Common.{rules, ◌≡◌, ◌++◌, ◌∷◌, []}
+use Rattle.std.proofs.Common.{arith, rules, ◌≡◌, ◌++◌, ◌∷◌, []}
 use Rattle.session_store.proofs.Items.{none_here, one_more}
 use Rattle.session_store.proofs.recovery.read_items.Goals as goal
 
@@ -11,4 +11,4 @@ loop-at-preserved c =
 
 pub returns-in-None : goal.returns-in-None
 returns-in-None c =
-    none_here c.args.payload.now c.loop-at.items.items c.loop-at.at c.loop-at.invariant.1 c.loop-at.invariant.2 c.loop-at-test.true (rw c.in-None.is at c.in_ok-item.ensures)
+    none_here c.args.payload.now c.loop-at.items.items c.loop-at.at c.loop-at.invariant.1 c.loop-at.invariant.2 (omega arith) (rw c.in-None.is at c.in_ok-item.ensures)
