@@ -52,7 +52,7 @@ frame_stands_not before old items payload first log is empty valid reads stands_
     items_valid [] group follows = follows.0
     items_valid (g ∷ gs) group follows = follows.0
 
-opened-push : (ps : List (List ℕ)) (p rest : List ℕ) → opened (ps ++ p ∷ []) ++ rest ≡ opened ps ++ (1 ∷ (frame p ++ rest))
+pub opened-push : (ps : List (List ℕ)) (p rest : List ℕ) → opened (ps ++ p ∷ []) ++ rest ≡ opened ps ++ (1 ∷ (frame p ++ rest))
 opened-push [] p rest = ap (λ (l : List ℕ). 1 ∷ (l ++ rest)) (append-nil (frame p))
 opened-push (q ∷ qs) p rest =
     ap (λ (l : List ℕ). 1 ∷ l)

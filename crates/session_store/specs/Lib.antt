@@ -2,3 +2,4 @@ pub mod Session
 pub mod Recovery
 pub mod Telling
 pub mod Steps
+pub mod Keeping

@@ -1,10 +1,14 @@
-//! Session files: what a stop left of one, recovered.
+//! Session files: written frame by frame, and what a stop left of one, recovered.
 #![tactic(auto)]
 
+#[cfg(test)]
+mod commit_tests;
+mod keeper;
 mod laws;
 mod recovery;
 #[cfg(test)]
 mod tests;
 
+pub use keeper::{Ack, Store, StoreFault};
 pub use laws::{logs_are_recovered, recovery_is_one};
 pub use recovery::{RecoverFault, Session, recover};

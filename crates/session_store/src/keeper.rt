@@ -1,0 +1,204 @@
+// Commits frames to a session file, each durable before its gate is opened.
+ghost use Rattle.std.specs.Prelude.{◌≡◌, ◌≢◌, ◌⊎◌, ℕ, ◌+◌, ◌-◌, ◌*◌, ◌<◌, ◌≤◌, ◌^◌, List, [], ◌∷◌, ◌++◌, length, drop, Some, None, option_map, IfSome, IfOk, OnOk, OnErr, IsErrOf, true, false, vec_capacity};
+ghost use Rattle.mug_outside.specs.Cause.{HasCause, Rose};
+ghost use Rattle.mug_disk.specs.Held.{Lifted, over};
+ghost use Rattle.input_log.specs.declared.item.LogItem.{LogItem};
+ghost use Rattle.log_frames.specs.Frames.{frame};
+ghost use Rattle.session_store.specs.Session.{payload_of};
+ghost use Rattle.session_store.specs.Recovery.{place_behind};
+ghost use Rattle.session_store.specs.Keeping.{IsEither, Leaves, file, session};
+
+use mug_disk::Disk;
+use mug_outside::Failed;
+use mug_text::NoMemory;
+use std::alloc::Global;
+use std::marker::Model;
+use thiserror::Error;
+
+/// The most bytes that a session has.
+const LIMIT: u64 = 1 << 32;
+
+/// A session that is being written, frame by frame.
+#[derive(Debug, Drop)]
+pub struct Store {
+    place: u64,
+    frames: u64,
+    inputs: u64,
+    moments: u64,
+    stopped: bool,
+    buffer: Vec<u8>,
+}
+
+impl Model for Store {
+    ghost use Rattle.std.specs.Prelude.{◌≡◌, ◌+◌, ◌-◌, ◌*◌, ◌≤◌, vec_capacity};
+    ghost use Rattle.session_store.specs.Keeping.{StoreState};
+
+    ghost Value = { StoreState };
+
+    ghost view = { λ s. record { place = s.place; frames = s.frames; inputs = s.inputs; moments = s.moments; spare = vec_capacity s.buffer - 5; stopped = s.stopped } };
+
+    ghost invariant = { λ s. (9 ≤ s.place) × (s.place ≤ 4294967296) × (5 * s.frames ≤ s.place) × (s.inputs ≤ s.place) × (s.moments ≤ 2 + 4 * s.frames) };
+}
+
+/// What a commit answers.
+#[derive(Clone, Copy, Debug, PartialEq, Eq)]
+pub struct Ack {
+    /// The number of inputs in all frames.
+    pub inputs: u64,
+    /// The number of writes and syncs that this store has made.
+    pub moment: u64,
+}
+
+/// Why a store did not do what it was asked for.
+#[derive(Clone, Copy, Debug, PartialEq, Eq, Error)]
+pub enum StoreFault {
+    /// The disk has bytes already.
+    #[error("session is not empty")]
+    NotEmpty,
+    /// The frame would pass the limit of a session.
+    #[error("session is full")]
+    Full,
+    /// The disk failed.
+    #[error("disk fault")]
+    DiskFault,
+    /// The disk failed at an earlier call of this store.
+    #[error("stopped")]
+    Stopped,
+    #[error("out of memory")]
+    NoMemory,
+}
+
+// The frame's bytes and the next gate, closed.
+fn fill(buffer: &mut Vec<u8>, payload: &[u8]) -> Result<(), NoMemory>
+    requires { length payload.now < 2 ^ 32 }
+    ensures ok { OnOk result (buffer.new.items ≡ frame payload.now ++ 0 ∷ []) }
+    ensures room { vec_capacity buffer.old ≤ vec_capacity buffer.new }
+    ensures err { OnErr result (vec_capacity buffer.old < 5 + length payload.now) }
+{
+    buffer.clear();
+    buffer.extend_from_slice(&(payload.len() as u32).to_be_bytes())?;
+    buffer.extend_from_slice(payload)?;
+    buffer.extend_from_slice(&[0])?;
+    Ok(())
+}
+
+// A frame and the next gate, closed, and then its own gate, open: four calls of the disk.
+fn write_frame<D: Disk>(disk: &mut D, place: u64, frame: &[u8]) -> Result<(), Failed>
+    requires inside { IfSome (D.held disk.old) (λ held. place ≤ length held) }
+    requires behind { 1 ≤ place }
+    ensures ok { OnOk result (D.held disk.new ≡ option_map (λ held. over (place - 1) (1 ∷ []) (over place frame.now held)) (D.held disk.old)) }
+    ensures moment { OnOk result (D.moment disk.old < 18446744073709551600 → D.moment disk.new ≡ D.moment disk.old + 4) }
+    ensures err_moment { OnErr result (D.moment disk.old < 18446744073709551600 → (D.moment disk.old < D.moment disk.new) × (D.moment disk.new ≤ D.moment disk.old + 4)) }
+    ensures left { OnErr result (Lifted (Leaves place frame.now) (D.held disk.old) (D.held disk.new)) }
+    ensures cause { HasCause (D.faults disk.old) (D.faults disk.new) result }
+{
+    disk.write_at(place, frame)?;
+    disk.sync()?;
+    disk.write_at(place - 1, &[1])?;
+    disk.sync()
+}
+
+impl Store {
+    /// Writes the header of a new session and syncs it.
+    pub fn create<D: Disk>(alloc: Global, disk: &mut D) -> Result<Store, StoreFault>
+        ensures made { IfOk result (λ store. (store.place ≡ 9) × (store.frames ≡ 0) × (store.inputs ≡ 0) × (store.moments ≡ 2) × (store.stopped ≡ false)) }
+        ensures file { OnOk result (D.held disk.new ≡ option_map (λ _. file []) (D.held disk.old)) }
+        ensures empty { OnOk result (IfSome (D.held disk.old) (λ held. held ≡ [])) }
+        ensures moment { OnOk result (D.moment disk.old < 18446744073709551600 → D.moment disk.new ≡ D.moment disk.old + 2) }
+
+        ensures not_empty { IsErrOf result StoreFault.NotEmpty → IfSome (D.held disk.old) (λ held. 0 < length held) × (D.held disk.new ≡ D.held disk.old) × (D.moment disk.new ≡ D.moment disk.old) }
+        ensures fault { IsErrOf result StoreFault.DiskFault → Rose (D.faults disk.old) (D.faults disk.new) }
+        ensures fault_moment { IsErrOf result StoreFault.DiskFault → D.moment disk.old < 18446744073709551600 → (D.moment disk.old ≤ D.moment disk.new) × (D.moment disk.new ≤ D.moment disk.old + 2) }
+        ensures only { OnErr result ((IsErrOf result StoreFault.Full → ⊥) × (IsErrOf result StoreFault.Stopped → ⊥) × (IsErrOf result StoreFault.NoMemory → ⊥)) }
+        ensures later { D.faults disk.old ≤ D.faults disk.new }
+    {
+        let Ok(len) = disk.len() else {
+            return Err(StoreFault::DiskFault);
+        };
+        if len != 0 {
+            return Err(StoreFault::NotEmpty);
+        }
+        let Ok(()) = disk.write_at(0, b"MUGSHOT1\0") else {
+            return Err(StoreFault::DiskFault);
+        };
+        let Ok(()) = disk.sync() else {
+            return Err(StoreFault::DiskFault);
+        };
+        Ok(Store {
+            place: 9,
+            frames: 0,
+            inputs: 0,
+            moments: 2,
+            stopped: false,
+            buffer: Vec::new(alloc),
+        })
+    }
+
+    /// Makes room, so that the commit of a payload of that many bytes takes no memory.
+    pub fn reserve(&mut self, bytes: usize) -> Result<(), NoMemory>
+        requires { bytes < 2 ^ 62 }
+        ensures room { OnOk result (bytes ≤ self.new.spare) }
+        ensures grows { self.old.spare ≤ self.new.spare }
+        ensures same { (self.new.place ≡ self.old.place) × (self.new.frames ≡ self.old.frames) × (self.new.inputs ≡ self.old.inputs) × (self.new.moments ≡ self.old.moments) × (self.new.stopped ≡ self.old.stopped) }
+    {
+        self.buffer.clear();
+        self.buffer.reserve(bytes + 5)?;
+        Ok(())
+    }
+
+    /// Adds a frame of this payload, in which there are so many inputs. At `Ok` it is durable. After a disk fault the store is stopped.
+    pub fn commit<D: Disk>(
+        &mut self,
+        disk: &mut D,
+        payload: &[u8],
+        inputs: u64,
+    ) -> Result<Ack, StoreFault>
+        requires some { 0 < length payload.now }
+        requires inputs_in { inputs ≤ length payload.now }
+        requires inside { self.old.stopped ≡ false → IfSome (D.held disk.old) (λ held. self.old.place ≤ length held) }
+        ensures ack { IfOk result (λ ack. (ack.inputs ≡ self.old.inputs + inputs) × (ack.moment ≡ self.old.moments + 4)) }
+        ensures counts { OnOk result ((self.new.place ≡ self.old.place + 5 + length payload.now) × (self.new.frames ≡ self.old.frames + 1) × (self.new.inputs ≡ self.old.inputs + inputs) × (self.new.moments ≡ self.old.moments + 4) × (self.new.stopped ≡ false)) }
+        ensures file { OnOk result ((frames : List (List LogItem)) (items : List LogItem) (gate : ℕ) (rest : List ℕ) → self.old.place ≡ place_behind frames → payload.now ≡ payload_of items → D.held disk.old ≡ Some (session frames gate rest)
+            → D.held disk.new ≡ Some (session (frames ++ items ∷ []) 0 (drop (5 + length payload.now) rest))) }
+        ensures untold { OnOk result (D.held disk.old ≡ None → D.held disk.new ≡ None) }
+        ensures moment { OnOk result (D.moment disk.old < 18446744073709551600 → D.moment disk.new ≡ D.moment disk.old + 4) }
+        ensures room { self.old.spare ≤ self.new.spare }
+
+        ensures full { IsErrOf result StoreFault.Full → 4294967296 < self.old.place + 5 + length payload.now }
+        ensures fits { 4294967296 < self.old.place + 5 + length payload.now → self.old.stopped ≡ false → IsErrOf result StoreFault.Full }
+        ensures stopped { IsErrOf result StoreFault.Stopped → self.old.stopped ≡ true }
+        ensures stays_stopped { self.old.stopped ≡ true → IsErrOf result StoreFault.Stopped }
+        ensures fault { IsErrOf result StoreFault.DiskFault → Rose (D.faults disk.old) (D.faults disk.new) × (self.new.stopped ≡ true) }
+        ensures fault_moment { IsErrOf result StoreFault.DiskFault → D.moment disk.old < 18446744073709551600 → (D.moment disk.old < D.moment disk.new) × (D.moment disk.new ≤ D.moment disk.old + 4) }
+        ensures left { IsErrOf result StoreFault.DiskFault → (frames : List (List LogItem)) (items : List LogItem) (gate : ℕ) (rest : List ℕ) → gate ≢ 1 → self.old.place ≡ place_behind frames → payload.now ≡ payload_of items
+            → D.held disk.old ≡ Some (session frames gate rest) → IfSome (D.held disk.new) (IsEither frames items) }
+        ensures memory { IsErrOf result StoreFault.NoMemory → self.old.spare < length payload.now }
+        ensures not_empty { IsErrOf result StoreFault.NotEmpty → ⊥ }
+        ensures nothing { OnErr result (IsErrOf result StoreFault.DiskFault ⊎ ((D.held disk.new ≡ D.held disk.old) × (D.moment disk.new ≡ D.moment disk.old) × (D.faults disk.new ≡ D.faults disk.old)
+            × (self.new.place ≡ self.old.place) × (self.new.frames ≡ self.old.frames) × (self.new.inputs ≡ self.old.inputs) × (self.new.moments ≡ self.old.moments) × (self.new.stopped ≡ self.old.stopped))) }
+        ensures later { D.faults disk.old ≤ D.faults disk.new }
+    {
+        if self.stopped {
+            return Err(StoreFault::Stopped);
+        }
+        let size = payload.len() as u64;
+        if size > LIMIT - 5 || self.place > LIMIT - 5 - size {
+            return Err(StoreFault::Full);
+        }
+        if fill(&mut self.buffer, payload).is_err() {
+            return Err(StoreFault::NoMemory);
+        }
+        if write_frame(disk, self.place, &self.buffer).is_err() {
+            self.stopped = true;
+            return Err(StoreFault::DiskFault);
+        }
+        self.place += 5 + size;
+        self.frames += 1;
+        self.inputs += inputs;
+        self.moments += 4;
+        Ok(Ack {
+            inputs: self.inputs,
+            moment: self.moments,
+        })
+    }
+}
