@@ -18,12 +18,15 @@ fn write(alloc: Global, disk: &mut MemDisk) -> Result<(Ack, Ack), StoreFault> {
     if store.reserve(64).is_err() {
         return Err(StoreFault::NoMemory);
     }
-    let head = store.commit(disk, HEAD, 0);
-    let Ok(head) = head else {
-        return match store.commit(disk, HEAD, 0) {
-            Err(StoreFault::Stopped) => Err(StoreFault::DiskFault),
-            _ => Err(StoreFault::Full),
-        };
+    let head = match store.commit(disk, HEAD, 0) {
+        Ok(head) => head,
+        Err(StoreFault::DiskFault) => {
+            return match store.commit(disk, HEAD, 0) {
+                Err(StoreFault::Stopped) => Err(StoreFault::DiskFault),
+                _ => Err(StoreFault::Stopped),
+            };
+        }
+        Err(fault) => return Err(fault),
     };
     let inputs = store.commit(disk, INPUTS, 3)?;
     Ok((head, inputs))

@@ -103,6 +103,7 @@ impl Store {
     pub fn create<D: Disk>(alloc: Global, disk: &mut D) -> Result<Store, StoreFault>
         ensures made { IfOk result (λ store. (store.place ≡ 9) × (store.frames ≡ 0) × (store.inputs ≡ 0) × (store.moments ≡ 2) × (store.stopped ≡ false)) }
         ensures file { OnOk result (D.held disk.new ≡ option_map (λ _. file []) (D.held disk.old)) }
+        ensures inside { IfOk result (λ store. IfSome (D.held disk.new) (λ held. store.place ≤ length held)) }
         ensures empty { OnOk result (IfSome (D.held disk.old) (λ held. held ≡ [])) }
         ensures moment { OnOk result (D.moment disk.old < 18446744073709551600 → D.moment disk.new ≡ D.moment disk.old + 2) }
 
@@ -160,6 +161,7 @@ impl Store {
         ensures counts { OnOk result ((self.new.place ≡ self.old.place + 5 + length payload.now) × (self.new.frames ≡ self.old.frames + 1) × (self.new.inputs ≡ self.old.inputs + inputs) × (self.new.moments ≡ self.old.moments + 4) × (self.new.stopped ≡ false)) }
         ensures file { OnOk result ((frames : List (List LogItem)) (items : List LogItem) (gate : ℕ) (rest : List ℕ) → self.old.place ≡ place_behind frames → payload.now ≡ payload_of items → D.held disk.old ≡ Some (session frames gate rest)
             → D.held disk.new ≡ Some (session (frames ++ items ∷ []) 0 (drop (5 + length payload.now) rest))) }
+        ensures still_inside { OnOk result (IfSome (D.held disk.new) (λ held. self.new.place ≤ length held)) }
         ensures untold { OnOk result (D.held disk.old ≡ None → D.held disk.new ≡ None) }
         ensures moment { OnOk result (D.moment disk.old < 18446744073709551600 → D.moment disk.new ≡ D.moment disk.old + 4) }
         ensures room { self.old.spare ≤ self.new.spare }

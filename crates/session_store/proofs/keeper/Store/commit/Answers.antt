@@ -1,4 +1,4 @@
-use Rattle.std.proofs.Common.{◌≡◌, ◌++◌, ◌∷◌, [], ◌∙◌, ℕ, List, sym, ap, arith, rules, false, true, is_ok, is_err, IsErr}
+use Rattle.std.proofs.Common.{◌≡◌, ◌++◌, ◌∷◌, [], ◌∙◌, ap, rules}
 use Rattle.log_frames.specs.Frames.{frame}
 use Rattle.session_store.specs.Keeping.{StoreState}
 use Rattle.session_store.proofs.Writes.{committed, left_behind}
