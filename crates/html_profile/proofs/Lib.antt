@@ -5,3 +5,4 @@ pub mod Attributes
 pub mod NameKeys
 pub mod Trees
 pub mod Pages
+pub mod OnePage

@@ -1,18 +1,15 @@
 -- Sets and maps by names: what a change at one name leaves at any other.
-use Rattle.std.proofs.Common.{◌≡◌, ℕ, Bool, true, false, cond, ◌||◌, not, List, ◌∷◌, Option, Vec, Global, refl, sym, ap, subst, ◌∙◌, ⊎_elim}
+use Rattle.std.proofs.Common.{◌≡◌, ℕ, Bool, true, false, cond, ◌||◌, List, ◌∷◌, Vec, Global, refl, sym, ap, subst, ◌∙◌, ⊎_elim}
 use Rattle.std.specs.Ordering.{is_eq, nat_cmp}
 use Rattle.std.specs.declared.cmp.Ordering.{Ordering}
 use Rattle.std.specs.Cmp.{eq_by_cmp_equiv}
 use Rattle.std.specs.Cmp.Lexicographic.{slice_cmp, bytes_decides, nat_list_cmp_total, nat_list_eq_equiv, texts_ties}
 use Rattle.std.specs.List.{list_any}
 use Rattle.std.specs.Str.{bytes_eq}
-use Rattle.std.specs.BTreeMap as tree
 use Rattle.std.specs.BTreeSet as sorted
-use Rattle.std.specs.Map.{lookup, IsKeyTest, AreApart, KeepsOthers}
+use Rattle.std.specs.Map.{IsKeyTest, AreApart}
 use Rattle.std.specs.Set.{KeepsOthers as KeepsOtherKeys}
 use Rattle.std.proofs.lemmas.Bool.{cases_Bool, cond-true, cond-false}
-use Rattle.html_profile.specs.declared.seen.Seen.{Seen}
-use Rattle.html_profile.specs.Seen.{HasNames}
 
 abbrev Name : Type 0
 Name = Vec ℕ Global

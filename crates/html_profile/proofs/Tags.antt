@@ -1,5 +1,5 @@
 -- The attributes of a tag, one after another.
-use Rattle.std.proofs.Common.{◌≡◌, ℕ, ◌-◌, List, [], ◌++◌, length, take, drop, Option, Some, None, refl, sym, ap, subst, ◌∙◌, append-nil}
+use Rattle.std.proofs.Common.{◌≡◌, ℕ, ◌-◌, List, [], ◌++◌, length, take, drop, Option, Some, None, sym, ap, subst, ◌∙◌, append-nil}
 use Rattle.std.proofs.lemmas.List.{take_rest}
 use Rattle.html_profile.specs.Marks.{lower, before, from}
 use Rattle.html_profile.specs.Attributes.{attribute_at, closing, IsAttributes}

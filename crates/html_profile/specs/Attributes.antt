@@ -1,6 +1,6 @@
 -- The attributes of a start tag (HTML Standard, 13.2.5.32 to 13.2.5.39, in a profile: no state of a missing value,
 -- so a value without quotes runs to white space or `>`, and a tag that the end cuts off has no attribute at its last place).
-use Rattle.std.specs.Prelude.{◌≡◌, ℕ, ◌+◌, Bool, true, not, List, [], ◌∷◌, length, take, drop, ◌==◌, Option, Some, None, if◌then◌else◌}
+use Rattle.std.specs.Prelude.{◌≡◌, ℕ, ◌+◌, not, List, [], ◌∷◌, length, take, drop, ◌==◌, Option, Some, None, if◌then◌else◌}
 use Rattle.std.specs.Option.{option_map}
 use Rattle.std.specs.Borrow.{Bor}
 use Rattle.html_profile.specs.Marks.{lower, begins, place, before, from}

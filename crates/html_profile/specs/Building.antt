@@ -1,5 +1,5 @@
 -- What has been built of a page, as its state.
-use Rattle.std.specs.Prelude.{List, reverse}
+use Rattle.std.specs.Prelude.{reverse}
 use Rattle.html_profile.specs.declared.tree.Builder.{Builder}
 use Rattle.html_profile.specs.Tree.{State}
 

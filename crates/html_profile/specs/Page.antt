@@ -1,5 +1,5 @@
 -- What a page is: its tree, the scripts that are run, and the handler attributes.
-use Rattle.std.specs.Prelude.{◌≡◌, ℕ, ◌+◌, Bool, List, ◌++◌, length, take, drop, if◌then◌else◌}
+use Rattle.std.specs.Prelude.{◌≡◌, ℕ, Bool, List, ◌++◌, length, take, drop, if◌then◌else◌}
 use Rattle.html_profile.specs.Marks.{opens}
 use Rattle.html_profile.specs.FirstPlace.{mark_len, first_place}
 use Rattle.html_profile.specs.Pieces.{ArePieces}

@@ -1,10 +1,10 @@
 -- The pieces that make up a page (HTML Standard, 13.2.5 "Tokenization", in a profile: no CDATA; a comment ends at `-->` alone,
 -- so `<!-->` opens one; an element with raw text and its text are one piece).
 -- Each piece is of the kind that its first bytes have, and as long as the rule of its kind lets it be.
-use Rattle.std.specs.Prelude.{◌≡◌, ◌≢◌, ℕ, Bool, ◌&&◌, List, [], ◌∷◌, length, drop, codes, nat_lt, Option, Some, None, if◌then◌else◌}
+use Rattle.std.specs.Prelude.{◌≡◌, ◌≢◌, ℕ, ◌&&◌, List, [], ◌∷◌, length, drop, codes, nat_lt, Option, Some, None, if◌then◌else◌}
 use Rattle.std.specs.Char.{is_ascii_alphabetic}
 use Rattle.std.specs.Str.{bytes_eq}
-use Rattle.html_profile.specs.Marks.{lower, opens, begins, opens_markup, name_of, place, before, from}
+use Rattle.html_profile.specs.Marks.{lower, opens, begins, opens_markup, place, before, from}
 use Rattle.html_profile.specs.Plain.{lines, plain}
 use Rattle.html_profile.specs.Attributes.{IsAttributes}
 use Rattle.html_profile.specs.declared.mark.Raw.{Raw}

@@ -1,6 +1,6 @@
 -- The tree that a page's pieces make (HTML Standard, 13.2.6, in a profile: no implied tags, so a start tag always opens a child of
 -- the innermost open element, and an end tag closes all up to the nearest open element of its name, or is ignored).
-use Rattle.std.specs.Prelude.{ℕ, ◌+◌, ◌-◌, Bool, List, [], ◌∷◌, ◌++◌, length, map, codes, fold, Option, Some, None, if◌then◌else◌}
+use Rattle.std.specs.Prelude.{ℕ, ◌-◌, List, [], ◌∷◌, ◌++◌, length, map, codes, fold, Option, Some, None, if◌then◌else◌}
 use Rattle.std.specs.List.{flat_map}
 use Rattle.std.specs.Option.{option_map}
 use Rattle.std.specs.Str.{bytes_eq, chars}

@@ -3,7 +3,7 @@ ghost use Rattle.std.specs.Prelude.{◌≡◌, ℕ, ◌<◌, ◌≤◌, ◌^◌,
 ghost use Rattle.mug_text.specs.Text.{IsText};
 ghost use Rattle.html_profile.specs.FirstPlace.{mark_len};
 ghost use Rattle.html_profile.specs.Building.{state_of};
-ghost use Rattle.html_profile.specs.Page.{IsPage, IsTree, opens_prelude, without_prelude};
+ghost use Rattle.html_profile.specs.Page.{Page, IsPage, IsTree, opens_prelude, without_prelude};
 ghost use Rattle.html_profile.specs.PageFault.{Refuses};
 
 use crate::document::{DocNode, HandlerAt, ScriptAt};
@@ -165,6 +165,7 @@ fn built(alloc: Global, bytes: &[u8]) -> Result<Builder, AllocError>
 /// The page that these bytes are.
 pub fn read_html(alloc: Global, bytes: &[u8]) -> Result<Document, HtmlFault>
     ensures page { IfOk result (λ page. IsPage bytes.now page) }
+    ensures only { IfOk result (λ page. (other : Page) → IsPage bytes.now other → other ≡ page) }
     ensures size { OnOk result (length bytes.now ≤ 4194754) }
     ensures text { OnOk result ((text : List ℕ) × IsText bytes.now text) }
     ensures refused { IfErr result (λ fault. Refuses fault bytes.now) }

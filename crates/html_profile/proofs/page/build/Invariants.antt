@@ -1,4 +1,4 @@
-use Rattle.std.proofs.Common.{◌≡◌, ℕ, ◌+◌, ◌*◌, ◌≤◌, List, [], length, fold, vec_len}
+use Rattle.std.proofs.Common.{◌≡◌, ◌+◌, ◌*◌, ◌≤◌, List, [], length, fold, vec_len}
 use Rattle.html_profile.specs.Tree.{step, beginning}
 use Rattle.html_profile.specs.Pieces.{Reads}
 use Rattle.html_profile.specs.Building.{state_of}

@@ -1,5 +1,5 @@
 use Rattle.html_profile.proofs.Tags.{start_tag_is}
-use Rattle.std.proofs.Common.{sym, ap, ◌∙◌}
+use Rattle.std.proofs.Common.{ap, ◌∙◌}
 use Rattle.html_profile.specs.Marks.{lower}
 use Rattle.html_profile.specs.Pieces.{raw_of, content, behind_content}
 use Rattle.html_profile.proofs.piece.start_tag.Goals as goal
