@@ -1,0 +1,7 @@
+-- What has been built of a page, as its state.
+use Rattle.std.specs.Prelude.{reverse}
+use Rattle.html_profile.specs.declared.tree.Builder.{Builder}
+use Rattle.html_profile.specs.Tree.{State}
+
+abbrev pub state_of : Builder → State
+state_of b = record { nodes = b.nodes.items; open_elements = reverse b.elements.items; words = b.words.items; scripts = b.scripts.items; handlers = b.handlers.items }

@@ -1,0 +1,11 @@
+pub mod Marks
+pub mod FirstPlace
+pub mod Plain
+pub mod Attributes
+pub mod Pieces
+pub mod Names
+pub mod Tree
+pub mod Seen
+pub mod Building
+pub mod Page
+pub mod PageFault
