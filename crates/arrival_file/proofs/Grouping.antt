@@ -11,7 +11,8 @@ use Rattle.arrival_file.specs.declared.arrival.Turn.TheVariants as turn
 use Rattle.arrival_file.specs.declared.entry.Entry.{Entry}
 use Rattle.arrival_file.specs.declared.entry.Entry.TheVariants.{Load, Now, Rand}
 
-abbrev IsReading : Entry → Type 0
+-- a line that begins no turn
+abbrev pub IsReading : Entry → Type 0
 IsReading entry = is_turn entry ≡ false
 
 pub nows-push : (readings : List Entry) (entry : Entry) → All IsReading readings → nows_of (readings ++ entry ∷ []) ≡ nows_of readings ++ nows_of (entry ∷ [])

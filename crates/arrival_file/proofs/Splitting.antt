@@ -5,7 +5,7 @@ use Rattle.std.proofs.lemmas.Bool.Decides.{nat_tests}
 use Rattle.arrival_file.specs.Format.{EndsField, HasLaterWord, HasLine, HasNoLine, IsField, IsLaterWord, line_of}
 use Rattle.arrival_file.specs.Steps.{Splits, is_end}
 
-abbrev IsPlain : ℕ → Type 0
+abbrev pub IsPlain : ℕ → Type 0
 IsPlain b = (b ≢ 32) × (b ≢ 10)
 
 abbrev is_field : List ℕ → Bool

@@ -1,3 +1,4 @@
 pub mod Format
 pub mod Telling
 pub mod Steps
+pub mod Ranges

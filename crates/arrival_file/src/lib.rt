@@ -4,6 +4,7 @@
 mod arrival;
 mod entry;
 mod fields;
+mod laws;
 mod number;
 mod reading;
 mod stop;
@@ -12,4 +13,5 @@ mod tests;
 mod turns;
 
 pub use arrival::{Arrival, ArrivalFault, ArrivalKind, Arrivals, Turn};
+pub use laws::{an_answer_is_one, arrivals_are_bounded};
 pub use reading::read_arrivals;
