@@ -1,8 +1,7 @@
 -- Parts of parts.
-use Rattle.std.proofs.Common.{◌≡◌, ℕ, ◌+◌, ◌-◌, ◌≤◌, List, [], ◌∷◌, ◌++◌, length, take, drop, slice_range, Result, IfOk, refl, sym, ap, subst, ◌∙◌, arith}
+use Rattle.std.proofs.Common.{◌≡◌, ℕ, ◌+◌, ◌-◌, ◌≤◌, List, length, take, drop, slice_range, sym, ap, ◌∙◌, arith}
 use Rattle.std.proofs.lemmas.List.{take-take, drop-take, drop-drop}
 use Rattle.std.proofs.lemmas.List.Edits.{length-between}
-use Rattle.std.proofs.lemmas.Slice.{between_from_start}
 
 pub part_of_part : (xs : List ℕ) (from to a b : ℕ) → from ≤ to → to ≤ length xs → a ≤ b → b ≤ length (slice_range xs from to) → slice_range xs (from + a) (from + b) ≡ slice_range (slice_range xs from to) a b
 part_of_part xs from to a b ordered within inner most =

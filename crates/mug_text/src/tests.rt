@@ -189,7 +189,7 @@ fn texts_are_ordered_by_units(rt: HostRuntime) -> Result<(), Fail> {
 
 #[test]
 fn equal_texts_hash_alike_whatever_they_share(rt: HostRuntime) -> Result<(), Fail> {
-    let whole = JText::from_utf8(rt.alloc(), b"xaby")?;
+    let whole = JText::from_units(rt.alloc(), &[0x78, 0x61, 0x62, 0x79])?;
     let part = whole.slice(1, 3)?;
     let made = JText::from_utf8(rt.alloc(), b"ab")?;
     let joined = whole.slice(1, 2)?.concat(&whole.slice(2, 3)?)?;

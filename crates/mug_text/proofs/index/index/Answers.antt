@@ -1,4 +1,4 @@
-use Rattle.std.proofs.Common.{◌≡◌, ℕ, ◌+◌, ◌-◌, ◌*◌, ◌<◌, ◌≤◌, IsTrue, true, false, List, length, get_or, drop, inl, inr, drop_of_length-le, refl, sym, ap, subst, ◌∙◌, rules, arith}
+use Rattle.std.proofs.Common.{◌≡◌, ◌+◌, ◌-◌, ◌*◌, ◌<◌, ◌≤◌, IsTrue, true, false, length, get_or, drop, inl, inr, drop_of_length-le, refl, ap, ◌∙◌, rules, arith}
 use Rattle.std.specs.Str.{all_ascii_digits}
 use Rattle.std.proofs.lemmas.Bool.{cases_lt}
 use Rattle.mug_text.proofs.Numbers.{read_on, read_grows, read_more, digits_more, digits_end, no_empty, no_padded, no_digits, no_large, some_index}
