@@ -1,3 +1,5 @@
 pub mod Texts
 mod Decoding
+pub mod Numbers
+mod Parts
 mod Reading

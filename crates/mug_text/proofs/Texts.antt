@@ -14,7 +14,7 @@ use Rattle.mug_text.specs.Text.{IsText, StopsAt, joined, code_points, IsWellForm
 
 -- ---- the units of a code point
 
-narrow_units : (c : ℕ) → c < 0x1_0000 → encode_utf16 c ≡ c ∷ []
+pub narrow_units : (c : ℕ) → c < 0x1_0000 → encode_utf16 c ≡ c ∷ []
 narrow_units c low = cond-true _ _ _ (lt-ltb c 0x1_0000 low)
 
 wide_units : (c : ℕ) → 0x1_0000 ≤ c → encode_utf16 c ≡ (0xD800 + (c - 0x1_0000) / 0x400) ∷ (0xDC00 + (c - 0x1_0000) % 0x400) ∷ []

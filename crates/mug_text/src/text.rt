@@ -1,5 +1,5 @@
 // Texts of 16-bit units.
-ghost use Rattle.std.specs.Prelude.{◌≡◌, ◌≢◌, ℕ, ◌<◌, ◌++◌, List, length, slice_index, All, OnOk, OnErr, IfOk, IfErr};
+ghost use Rattle.std.specs.Prelude.{◌≡◌, ◌≢◌, ℕ, ◌<◌, ◌≤◌, ◌++◌, List, length, slice_index, slice_range, All, OnOk, OnErr, IfOk, IfErr};
 ghost use Rattle.mug_text.specs.Text.{shown_text, utf8_of, IsText, IsWellFormed};
 ghost use Rattle.mug_text.specs.TextFault.{Refuses};
 
@@ -8,23 +8,27 @@ use crate::shown::push_text;
 use crate::utf8::{count_utf8, push_utf8};
 use std::alloc::{AllocError, Global};
 use std::marker::Model;
-use std::rc::RcSlice;
+use std::rc::Rc;
 use std::str;
 use thiserror::Error;
 
-/// An immutable list of 16-bit units (ECMA-262 edition 5.1, 8.4). Copies share the units.
-#[derive(Debug, Drop)]
+/// An immutable list of 16-bit units (ECMA-262 edition 5.1, 8.4). Copies and slices share the units.
+#[derive(Drop)]
 pub struct JText {
-    units: RcSlice<u16>,
+    // The text is the part of the buffer from `from` up to `to`.
+    buffer: Rc<Vec<u16>>,
+    from: usize,
+    to: usize,
 }
 
 impl Model for JText {
-    ghost use Rattle.std.specs.Prelude.{ℕ, List};
-    ghost use Rattle.std.specs.Rc.{rc_slice_items};
+    ghost use Rattle.std.specs.Prelude.{ℕ, ◌≤◌, List, length, slice_range};
 
     ghost Value = { List ℕ };
 
-    ghost view = { λ t. rc_slice_items t.units };
+    ghost view = { λ t. slice_range t.buffer.value.items t.from t.to };
+
+    ghost invariant = { λ t. (t.from ≤ t.to) × (t.to ≤ length t.buffer.value.items) };
 }
 
 /// Why bytes are no text.
@@ -48,6 +52,13 @@ impl From<AllocError> for TextFault {
 }
 
 impl JText {
+    /// The text of just these units.
+    pub fn from_units(alloc: Global, units: &[u16]) -> Result<JText, NoMemory>
+        ensures { IfOk result (λ text. text ≡ units.now) }
+    {
+        Ok(JText::whole(units.to_vec(alloc)?)?)
+    }
+
     /// The text that these bytes are in UTF-8.
     pub fn from_utf8(alloc: Global, bytes: &[u8]) -> Result<JText, TextFault>
         ensures ok { IfOk result (λ text. IsText bytes.now text) }
@@ -60,10 +71,7 @@ impl JText {
         ensures no_text { (at : ℕ) → result ≡ Err (TextFault.NotUtf8 at) → (t : List ℕ) → IsWellFormed t → utf8_of t ≢ bytes.now }
     {
         match str::from_utf8(bytes) {
-            Ok(text) => {
-                let units = text.encode_utf16().collect(alloc)?;
-                Ok(JText { units })
-            }
+            Ok(text) => Ok(JText::of_str(alloc, text)?),
             Err(fault) => Err(TextFault::NotUtf8 {
                 at: fault.valid_up_to(),
             }),
@@ -74,15 +82,47 @@ impl JText {
     pub fn copy(&self) -> Result<JText, NoMemory>
         ensures { IfOk result (λ copy. copy ≡ self.now) }
     {
-        let units = self.units.clone()?;
-        Ok(JText { units })
+        self.slice(0, self.len())
+    }
+
+    /// The units of this text, and then those of the other.
+    pub fn concat(&self, other: &JText) -> Result<JText, NoMemory>
+        ensures { IfOk result (λ both. both ≡ self.now ++ other.now) }
+    {
+        let front = self.as_slice();
+        let back = other.as_slice();
+        let alloc = *self.buffer.as_ref().allocator();
+        let mut units = Vec::with_capacity(alloc, front.len() + back.len())?;
+        units.extend_from_slice(front)?;
+        units.extend_from_slice(back)?;
+        Ok(JText::whole(units)?)
+    }
+
+    /// Another owner of the units from one index up to another.
+    pub fn slice(&self, from: usize, to: usize) -> Result<JText, NoMemory>
+        requires ordered { from ≤ to }
+        requires within { to ≤ length self.now }
+        ensures { IfOk result (λ part. part ≡ slice_range self.now from to) }
+    {
+        Ok(JText {
+            buffer: self.buffer.clone()?,
+            from: self.from + from,
+            to: self.from + to,
+        })
+    }
+
+    /// The units.
+    pub fn as_slice(&self) -> &[u16]
+        ensures { result.now ≡ self.now }
+    {
+        &self.buffer.as_ref()[self.from..self.to]
     }
 
     /// The number of units.
     pub fn len(&self) -> usize
         ensures { result ≡ length self.now }
     {
-        self.units.len()
+        self.to - self.from
     }
 
     /// The unit at an index.
@@ -90,7 +130,7 @@ impl JText {
         requires { index < length self.now }
         ensures { result ≡ slice_index self.now index }
     {
-        self.units.as_slice()[index]
+        self.as_slice()[index]
     }
 
     /// Appends the text in UTF-8, with U+FFFD for each surrogate without a partner.
@@ -99,7 +139,7 @@ impl JText {
         ensures err { OnErr result (out.new.items ≡ out.old.items) }
     {
         let before = out.len();
-        let pushed = push_utf8(self.units.as_slice(), out);
+        let pushed = push_utf8(self.as_slice(), out);
         if pushed.is_err() {
             out.truncate(before);
         }
@@ -110,7 +150,7 @@ impl JText {
     pub fn utf8_len(&self) -> usize
         ensures { result ≡ length (utf8_of self.now) }
     {
-        count_utf8(self.units.as_slice())
+        count_utf8(self.as_slice())
     }
 
     /// Appends the text in UTF-8, with escapes for what does not print.
@@ -119,10 +159,29 @@ impl JText {
         ensures err { OnErr result (out.new.items ≡ out.old.items) }
     {
         let before = out.len();
-        let pushed = push_text(self.units.as_slice(), out);
+        let pushed = push_text(self.as_slice(), out);
         if pushed.is_err() {
             out.truncate(before);
         }
         pushed
+    }
+
+    // The text that this is in UTF-16.
+    pub(crate) fn of_str(alloc: Global, text: &str) -> Result<JText, AllocError>
+        ensures { IfOk result (λ made. IsText text.now made) }
+    {
+        JText::whole(text.encode_utf16().collect(alloc)?)
+    }
+
+    // These units, taken over.
+    fn whole(units: Vec<u16>) -> Result<JText, AllocError>
+        ensures { IfOk result (λ text. text ≡ units.items) }
+    {
+        let to = units.len();
+        Ok(JText {
+            buffer: Rc::new(*units.allocator(), units)?,
+            from: 0,
+            to,
+        })
     }
 }
