@@ -8,3 +8,4 @@ pub mod Moved
 pub mod Named
 pub mod Fitting
 pub mod Walks
+pub mod Fronts

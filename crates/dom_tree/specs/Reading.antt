@@ -51,7 +51,11 @@ value_of nodes x (tag name attributes) =
     else (if bytes_eq name (codes "textarea") then Some (text_in x (slice_get nodes (x + 1))) else None)
 value_of nodes x (words text) = None
 
--- the node of this number, where so many nodes at the front are looked at for its children
+-- the node of this number as it is made, before it has a parent
+abbrev pub made_of : List DocNode → ℕ → DocNode → DomNode
+made_of nodes x node = record { kind = kind_of node.content; parent = None; children = []; attributes = attributes_of_content node.content; value = value_of nodes x node.content }
+
+-- the node of this number, where these nodes are looked at for its children
 abbrev pub node_of : List DocNode → List DocNode → ℕ → DocNode → DomNode
 node_of nodes front x node = record {
   kind = kind_of node.content;
@@ -61,7 +65,11 @@ node_of nodes front x node = record {
   value = value_of nodes x node.content;
 }
 
+-- these are the page's nodes at the front, each with its number
+pub record IsFront (nodes front : List DocNode) (read : List DomNode) : Type 0 where
+  pub count : length read ≡ length front
+  pub each : (x : ℕ) → slice_get read x ≡ option_map (node_of nodes front x) (slice_get front x)
+
 -- the document has the page's nodes, each with its number
-pub record IsRead (nodes : List DocNode) (read : List DomNode) : Type 0 where
-  pub count : length read ≡ length nodes
-  pub each : (x : ℕ) → slice_get read x ≡ option_map (node_of nodes nodes x) (slice_get nodes x)
+abbrev pub IsRead : List DocNode → List DomNode → Type 0
+IsRead nodes read = IsFront nodes nodes read

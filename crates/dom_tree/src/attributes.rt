@@ -1,5 +1,5 @@
 // The attributes of a node, in their order.
-ghost use Rattle.std.specs.Prelude.{◌≡◌, ◌<◌, ℕ, List, [], ◌∷◌, ◌++◌, length, OnOk, OnErr, MatchOption, None, Some};
+ghost use Rattle.std.specs.Prelude.{◌≡◌, ◌<◌, ℕ, List, [], ◌∷◌, ◌++◌, length, IfOk, OnOk, OnErr, MatchOption, None, Some};
 ghost use Rattle.std.specs.Option.{option_map};
 ghost use Rattle.std.specs.Str.{bytes_eq};
 ghost use Rattle.dom_tree.specs.Names.{value_named, with_value, without_name};
@@ -7,7 +7,7 @@ ghost use Rattle.dom_tree.specs.Changes.{changed};
 
 use crate::words::{is_word, same_text};
 use html_profile::DocAttribute;
-use mug_text::JText;
+use mug_text::{JText, NoMemory};
 use std::alloc::{AllocError, Global};
 use std::marker::Model;
 
@@ -38,6 +38,40 @@ fn place_of(items: &[DocAttribute], name: &JText) -> Option<usize>
     None
 }
 
+// The value of the attribute whose name is this word in ASCII.
+pub(crate) fn value_of<'a>(items: &'a [DocAttribute], word: &[u8]) -> Option<&'a JText>
+    ensures { option_map (λ value. value.now) result ≡ value_named word.now items.now }
+{
+    for attribute in items {
+        if is_word(&attribute.name, word) {
+            return Some(&attribute.value);
+        }
+    }
+    None
+}
+
+fn push(items: &mut Vec<DocAttribute>, attribute: DocAttribute) -> Result<(), AllocError>
+    ensures { OnOk result (items.new.items ≡ items.old.items ++ attribute ∷ []) }
+{
+    items.push(attribute)?;
+    Ok(())
+}
+
+// Copies that share their texts.
+fn copies(alloc: Global, items: &[DocAttribute]) -> Result<Vec<DocAttribute>, NoMemory>
+    ensures { IfOk result (λ made. made.items ≡ items.now) }
+{
+    let mut made = Vec::new(alloc);
+    for attribute in items {
+        let copy = DocAttribute {
+            name: attribute.name.copy()?,
+            value: attribute.value.copy()?,
+        };
+        push(&mut made, copy)?;
+    }
+    Ok(made)
+}
+
 impl Attributes {
     pub(crate) fn new(alloc: Global) -> Attributes
         ensures { result ≡ [] }
@@ -47,10 +81,12 @@ impl Attributes {
         }
     }
 
-    pub(crate) fn of(items: Vec<DocAttribute>) -> Attributes
-        ensures { result ≡ items.items }
+    /// The same attributes.
+    pub(crate) fn of(alloc: Global, items: &[DocAttribute]) -> Result<Attributes, NoMemory>
+        ensures { IfOk result (λ attributes. attributes ≡ items.now) }
     {
-        Attributes { items }
+        let items = copies(alloc, items)?;
+        Ok(Attributes { items })
     }
 
     pub fn as_slice(&self) -> &[DocAttribute]
@@ -75,12 +111,7 @@ impl Attributes {
     pub(crate) fn value_of(&self, word: &[u8]) -> Option<&JText>
         ensures { option_map (λ value. value.now) result ≡ value_named word.now self.now }
     {
-        for attribute in &self.items {
-            if is_word(&attribute.name, word) {
-                return Some(&attribute.value);
-            }
-        }
-        None
+        value_of(&self.items, word)
     }
 
     /// Gives the attribute of this name a value.

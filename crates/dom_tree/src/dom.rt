@@ -4,12 +4,15 @@ ghost use Rattle.std.specs.Option.{option_map};
 ghost use Rattle.dom_tree.specs.Nodes.{Fits, parent_of, children_of, is_child, is_text};
 ghost use Rattle.dom_tree.specs.Changes.{changed, appended, inserted, removed, would_cycle};
 ghost use Rattle.dom_tree.specs.Names.{value_named, attributes_of, with_value, without_name, with_attributes, with_text, with_own_value, keeps_value_in, fresh, kind_of_new};
+ghost use Rattle.dom_tree.specs.Reading.{IsRead};
 ghost use Rattle.dom_tree.specs.Order.{node_by_id, node_by_path};
 
 use crate::moves::{append_child, insert_child, is_child, remove_child, would_cycle};
 use crate::order::{node_by_id, node_by_path};
 use crate::parts::{DomNode, Kind, NewNode};
+use crate::reading::read_nodes;
 use crate::writes::{push_node, remove_attribute, set_attribute, set_text, set_value};
+use html_profile::Document;
 use mug_text::{JText, NoMemory};
 use std::alloc::{AllocError, Global};
 use std::marker::Model;
@@ -77,6 +80,15 @@ impl Model for Dom {
 }
 
 impl Dom {
+    /// The document that a page is: the same nodes, each with its number. An input's value is its attribute `value`, and a
+    /// textarea's its text.
+    pub fn from_document(alloc: Global, doc: &Document) -> Result<Dom, NoMemory>
+        ensures { IfOk result (λ dom. IsRead doc.now.nodes dom) }
+    {
+        let nodes = read_nodes(alloc, doc)?;
+        Ok(Dom { alloc, nodes })
+    }
+
     /// How many nodes there are.
     pub fn count(&self) -> u32
         ensures is { result ≡ length self.now }

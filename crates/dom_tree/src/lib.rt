@@ -7,6 +7,7 @@ mod dom;
 mod moves;
 mod order;
 mod parts;
+mod reading;
 mod words;
 mod writes;
 
@@ -14,3 +15,6 @@ pub use attributes::Attributes;
 pub use children::Children;
 pub use dom::{Dom, DomFault};
 pub use parts::{DomNode, Kind, NewNode};
+
+#[cfg(test)]
+mod tests;

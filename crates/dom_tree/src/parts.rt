@@ -38,8 +38,8 @@ pub struct DomNode {
 }
 
 impl Kind {
-    /// Whether a node of this kind keeps a value beside its attributes.
-    pub(crate) fn keeps_value(&self) -> bool
+    /// Whether a node of this kind keeps a value beside its attributes: an input or a textarea.
+    pub fn keeps_value(&self) -> bool
         ensures { result ≡ keeps_value self.now }
     {
         match self {
