@@ -1,6 +1,6 @@
 -- The nodes of a page, read one after another.
-use Rattle.std.proofs.Common.{◌≡◌, ◌≢◌, ℕ, zero, suc, ◌+◌, ◌<◌, ◌≤◌, ◌==◌, ◌||◌, Bool, true, false, cond, List, [], ◌∷◌, ◌++◌, length, take, drop, Option, Some, None, refl, sym, ap, subst, ◌∙◌, arith, eq-eqb, ⊎_elim, length-append, append-nil, add-zero, zero-add}
-use Rattle.std.proofs.lemmas.Bool.{cases_eq, cases_lt, cases_order, cases_Bool, eqb-true, false≢true}
+use Rattle.std.proofs.Common.{◌≡◌, ◌≢◌, ℕ, zero, suc, ◌+◌, ◌<◌, ◌≤◌, ◌==◌, ◌||◌, false, cond, List, [], ◌∷◌, ◌++◌, length, take, drop, Option, Some, None, refl, sym, ap, subst, ◌∙◌, arith, eq-eqb, ⊎_elim, length-append, append-nil, add-zero, zero-add}
+use Rattle.std.proofs.lemmas.Bool.{cases_eq, cases_lt, cases_order, cases_Bool}
 use Rattle.std.proofs.lemmas.List.{drop_all, take_all}
 use Rattle.std.proofs.lemmas.Option.{slice_get_past, slice_get_within}
 use Rattle.std.specs.List.{slice_get, list_any}
@@ -8,10 +8,10 @@ use Rattle.std.specs.Option.{option_map}
 use Rattle.html_profile.specs.declared.document.DocNode.{DocNode}
 use Rattle.html_profile.specs.declared.document.Content.{Content}
 use Rattle.html_profile.specs.declared.document.Content.TheVariants.{Document as page, Element as tag, Text as words}
-use Rattle.html_profile.specs.Numbering.{parent_in as above_in, is_text_content, is_text_in as is_words_in, is_document_content, is_document_in as is_page_in, IsNumbered}
-use Rattle.dom_tree.specs.Nodes.{parent_in, children_in, is_text_in, is_text_kind, is_document_in, is_document_kind, parent_of, children_of, is_text, is_one, times, way_up, Ends, ancestors, Fits}
-use Rattle.dom_tree.specs.Changes.{changed, with_parent, with_children, at_end, left, left_at, appended, would_cycle}
-use Rattle.dom_tree.specs.Reading.{kind_of, attributes_of_content, numbers_in, value_of, made_of, node_of, IsFront}
+use Rattle.html_profile.specs.Numbering.{parent_in as above_in, is_text_content, is_text_in as is_words_in, IsNumbered}
+use Rattle.dom_tree.specs.Nodes.{parent_in, children_in, is_text_in, is_text_kind, parent_of, children_of, is_text, is_one, times, way_up, ancestors, Fits}
+use Rattle.dom_tree.specs.Changes.{changed, with_parent, with_children, at_end, left_at, appended, would_cycle}
+use Rattle.dom_tree.specs.Reading.{kind_of, numbers_in, made_of, node_of, IsFront}
 use Rattle.dom_tree.specs.declared.parts.DomNode.{DomNode}
 use Rattle.dom_tree.proofs.Items.{length_changed, at_changed, beside_changed}
 use Rattle.dom_tree.proofs.Kids.{unequal}
@@ -28,15 +28,15 @@ numbers_push x k [] d = ap (λ n. cond (is_one x d.parent) (n ∷ []) []) (sym (
 numbers_push x k (n ∷ front) d =
     ⊎_elim
     (λ hit.
-      ap (λ b. cond b (k ∷ numbers_in x (k + 1) (front ++ d ∷ [])) (numbers_in x (k + 1) (front ++ d ∷ []))) hit
-      ∙ ap (λ l. k ∷ l) (numbers_push x (k + 1) front d)
-      ∙ ap (λ m. k ∷ (numbers_in x (k + 1) front ++ cond (is_one x d.parent) (m ∷ []) [])) (moved_on k (length front))
-      ∙ ap (λ b. cond b (k ∷ numbers_in x (k + 1) front) (numbers_in x (k + 1) front) ++ cond (is_one x d.parent) ((k + suc (length front)) ∷ []) []) (sym hit))
+    ap (λ b. cond b (k ∷ numbers_in x (k + 1) (front ++ d ∷ [])) (numbers_in x (k + 1) (front ++ d ∷ []))) hit
+    ∙ ap (λ l. k ∷ l) (numbers_push x (k + 1) front d)
+    ∙ ap (λ m. k ∷ (numbers_in x (k + 1) front ++ cond (is_one x d.parent) (m ∷ []) [])) (moved_on k (length front))
+    ∙ ap (λ b. cond b (k ∷ numbers_in x (k + 1) front) (numbers_in x (k + 1) front) ++ cond (is_one x d.parent) ((k + suc (length front)) ∷ []) []) (sym hit))
     (λ miss.
-      ap (λ b. cond b (k ∷ numbers_in x (k + 1) (front ++ d ∷ [])) (numbers_in x (k + 1) (front ++ d ∷ []))) miss
-      ∙ numbers_push x (k + 1) front d
-      ∙ ap (λ m. numbers_in x (k + 1) front ++ cond (is_one x d.parent) (m ∷ []) []) (moved_on k (length front))
-      ∙ ap (λ b. cond b (k ∷ numbers_in x (k + 1) front) (numbers_in x (k + 1) front) ++ cond (is_one x d.parent) ((k + suc (length front)) ∷ []) []) (sym miss))
+    ap (λ b. cond b (k ∷ numbers_in x (k + 1) (front ++ d ∷ [])) (numbers_in x (k + 1) (front ++ d ∷ []))) miss
+    ∙ numbers_push x (k + 1) front d
+    ∙ ap (λ m. numbers_in x (k + 1) front ++ cond (is_one x d.parent) (m ∷ []) []) (moved_on k (length front))
+    ∙ ap (λ b. cond b (k ∷ numbers_in x (k + 1) front) (numbers_in x (k + 1) front) ++ cond (is_one x d.parent) ((k + suc (length front)) ∷ []) []) (sym miss))
     (cases_Bool (is_one x n.parent))
 
 numbers_none : (x k : ℕ) (front : List DocNode) → ((y : ℕ) → is_one x (above_in (slice_get front y)) ≡ false) → numbers_in x k front ≡ []
@@ -180,9 +180,9 @@ module _ (docs : List DocNode) (m p : ℕ) (d : DocNode) (read : List DomNode) (
       ⊎_elim
       (λ less. ap (λ o. is_one m (above_in o)) (get_take docs (m + 1) y less) ∙ not_yet_from y less)
       (λ past.
-        let room = inside in
-        let e = length_take docs (m + 1) (omega arith) in
-        ap (λ o. is_one m (above_in o)) (slice_get_past (take (m + 1) docs) y (omega arith)))
+      let room = inside in
+      let e = length_take docs (m + 1) (omega arith) in
+      ap (λ o. is_one m (above_in o)) (slice_get_past (take (m + 1) docs) y (omega arith)))
       (cases_lt y (m + 1))
 
   none_below : numbers_in m 0 (take m docs ++ d ∷ []) ≡ []
@@ -197,8 +197,8 @@ module _ (docs : List DocNode) (m p : ℕ) (d : DocNode) (read : List DomNode) (
   with_child d2 =
       ap (λ (l : List ℕ). record (node_of docs (take m docs) p d2) { children = l })
       (sym (numbers_push p 0 (take m docs) d ∙ ap (λ o. numbers_in p 0 (take m docs) ++ cond (is_one p o) ((0 + length (take m docs)) ∷ []) []) above_is
-        ∙ ap (λ b. numbers_in p 0 (take m docs) ++ cond b ((0 + length (take m docs)) ∷ []) []) (eq-eqb p p refl)
-        ∙ ap (λ n. numbers_in p 0 (take m docs) ++ n ∷ []) (zero-add (length (take m docs)) ∙ front_length)))
+      ∙ ap (λ b. numbers_in p 0 (take m docs) ++ cond b ((0 + length (take m docs)) ∷ []) []) (eq-eqb p p refl)
+      ∙ ap (λ n. numbers_in p 0 (take m docs) ++ n ∷ []) (zero-add (length (take m docs)) ∙ front_length)))
 
   after_is : appended p m (read ++ made_of docs m d ∷ []) ≡ changed (with_parent (Some p)) m (changed (with_children (at_end m)) p (read ++ made_of docs m d ∷ []))
   after_is = ap (λ o. changed (with_parent (Some p)) m (changed (with_children (at_end m)) p (left_at m o (read ++ made_of docs m d ∷ [])))) (ap parent_in last)
@@ -241,22 +241,22 @@ module _ (docs : List DocNode) (m p : ℕ) (d : DocNode) (read : List DomNode) (
   each_more x =
       ⊎_elim
       (λ is.
-        subst (λ v. slice_get (appended p m (read ++ made_of docs m d ∷ [])) v ≡ option_map (node_of docs (take m docs ++ d ∷ []) v) (slice_get (take m docs ++ d ∷ []) v)) (sym is)
-        (at_new ∙ ap (option_map (node_of docs (take m docs ++ d ∷ []) m)) (sym (ap (slice_get (take m docs ++ d ∷ [])) (sym front_length) ∙ get_last (take m docs) d))))
+      subst (λ v. slice_get (appended p m (read ++ made_of docs m d ∷ [])) v ≡ option_map (node_of docs (take m docs ++ d ∷ []) v) (slice_get (take m docs ++ d ∷ []) v)) (sym is)
+      (at_new ∙ ap (option_map (node_of docs (take m docs ++ d ∷ []) m)) (sym (ap (slice_get (take m docs ++ d ∷ [])) (sym front_length) ∙ get_last (take m docs) d))))
       (λ rest.
-        ⊎_elim
-        (λ less.
-          ⊎_elim
-          (λ is.
-            subst (λ v. slice_get (appended p m (read ++ made_of docs m d ∷ [])) v ≡ option_map (node_of docs (take m docs ++ d ∷ []) v) (slice_get (take m docs ++ d ∷ []) v)) (sym is) at_parent)
-          (λ other. at_other x other less)
-          (cases_eq x p))
-        (λ past.
-          let e = after_length in
-          let f = front_length_more in
-          slice_get_past (appended p m (read ++ made_of docs m d ∷ [])) x (omega arith)
-          ∙ ap (option_map (node_of docs (take m docs ++ d ∷ []) x)) (sym (slice_get_past (take m docs ++ d ∷ []) x (omega arith))))
-        rest)
+      ⊎_elim
+      (λ less.
+      ⊎_elim
+      (λ is.
+      subst (λ v. slice_get (appended p m (read ++ made_of docs m d ∷ [])) v ≡ option_map (node_of docs (take m docs ++ d ∷ []) v) (slice_get (take m docs ++ d ∷ []) v)) (sym is) at_parent)
+      (λ other. at_other x other less)
+      (cases_eq x p))
+      (λ past.
+      let e = after_length in
+      let f = front_length_more in
+      slice_get_past (appended p m (read ++ made_of docs m d ∷ [])) x (omega arith)
+      ∙ ap (option_map (node_of docs (take m docs ++ d ∷ []) x)) (sym (slice_get_past (take m docs ++ d ∷ []) x (omega arith))))
+      rest)
       (cases_order x m)
 
   pub front_fits : IsFront docs (take (m + 1) docs) (appended p m (read ++ made_of docs m d ∷ []))

@@ -1,10 +1,10 @@
 -- Nodes that fit still fit behind a move.
-use Rattle.std.proofs.Common.{◌≡◌, ◌≢◌, ℕ, zero, suc, ◌+◌, ◌<◌, ◌≤◌, ◌==◌, ◌||◌, Bool, true, false, cond, List, [], ◌∷◌, length, Option, Some, None, refl, sym, ap, subst, ◌∙◌, arith, eq-eqb, ⊎_elim, zero-add, add-zero}
-use Rattle.std.proofs.lemmas.Bool.{cases_eq, cases_lt, eqb-true, eqb-false, false≢true}
+use Rattle.std.proofs.Common.{◌≡◌, ◌≢◌, ℕ, zero, suc, ◌+◌, ◌<◌, ◌==◌, ◌||◌, Bool, true, false, cond, List, [], ◌∷◌, length, Option, Some, None, refl, sym, ap, subst, ◌∙◌, arith, eq-eqb, ⊎_elim, zero-add, add-zero}
+use Rattle.std.proofs.lemmas.Bool.{cases_eq, cases_lt, eqb-false, false≢true}
 use Rattle.std.proofs.lemmas.Option.{slice_get_past}
 use Rattle.std.specs.List.{slice_get, list_any}
 use Rattle.dom_tree.specs.Nodes.{parent_in, children_in, is_document_in, parent_of, children_of, is_text, is_one, is_child, times, way_up, Ends, ancestors, Fits}
-use Rattle.dom_tree.specs.Changes.{changed, with_parent, with_children, without, at_end, put_before, left, left_at, placed, appended, removed, would_cycle}
+use Rattle.dom_tree.specs.Changes.{changed, with_parent, with_children, at_end, put_before, left, placed, appended, removed, would_cycle}
 use Rattle.dom_tree.specs.declared.parts.DomNode.{DomNode}
 use Rattle.dom_tree.proofs.Items.{length_changed, beside_changed}
 use Rattle.dom_tree.proofs.Kids.{times_at_end, times_before, unequal}

@@ -1,12 +1,12 @@
 -- What nodes say behind a change.
-use Rattle.std.proofs.Common.{◌≡◌, ◌≢◌, ℕ, zero, suc, ◌+◌, ◌<◌, ◌≤◌, ◌==◌, Bool, true, false, cond, List, [], ◌∷◌, length, get_or, set, Option, Some, None, refl, sym, ap, subst, ◌∙◌, arith, eq-eqb, ⊎_elim}
+use Rattle.std.proofs.Common.{◌≡◌, ◌≢◌, ℕ, zero, suc, ◌<◌, true, false, cond, List, [], ◌∷◌, length, get_or, set, Option, Some, None, refl, sym, ap, subst, ◌∙◌, arith, eq-eqb, ⊎_elim}
 use Rattle.std.specs.Prelude.{OnOk, Result, Ok, Err}
 use Rattle.std.proofs.lemmas.Bool.{cases_eq, eqb-true, false≢true}
-use Rattle.std.proofs.lemmas.Option.{slice_get-get_or, slice_get_past}
+use Rattle.std.proofs.lemmas.Option.{slice_get-get_or}
 use Rattle.std.specs.List.{slice_get}
 use Rattle.std.specs.Option.{option_map, MatchOption}
 use Rattle.dom_tree.specs.Nodes.{parent_in, children_in, is_text_in, is_document_in, parent_of, children_of, is_text, is_one, is_child, times, Fits}
-use Rattle.dom_tree.specs.Changes.{changed, with_parent, with_children, without, left, left_at, placed, appended}
+use Rattle.dom_tree.specs.Changes.{changed, with_parent, with_children, without, left, left_at, placed}
 use Rattle.dom_tree.specs.declared.parts.DomNode.{DomNode}
 use Rattle.dom_tree.proofs.Items.{length_changed, set_is_changed, at_changed, beside_changed, changed_twice, changed_apart, changed_same}
 use Rattle.dom_tree.proofs.Kids.{times_without_same, times_without_other, unequal}

@@ -1,5 +1,5 @@
 -- The document walked through in tree order.
-use Rattle.std.proofs.Common.{◌≡◌, ◌≢◌, ℕ, zero, suc, ◌+◌, ◌-◌, ◌*◌, ◌<◌, ◌≤◌, ◌==◌, Bool, true, false, cond, List, [], ◌∷◌, ◌++◌, length, get_or, drop, drop-cons, add-one, Option, Some, None, refl, sym, ap, subst, ◌∙◌, arith, eq-eqb, ⊎_elim, append_assoc, append-nil, ◌&&◌, fold}
+use Rattle.std.proofs.Common.{◌≡◌, ℕ, zero, suc, ◌+◌, ◌-◌, ◌*◌, ◌<◌, ◌≤◌, ◌==◌, Bool, true, false, cond, List, [], ◌∷◌, ◌++◌, length, get_or, drop, drop-cons, add-one, Option, Some, None, refl, sym, ap, subst, ◌∙◌, arith, eq-eqb, ⊎_elim, append_assoc, append-nil, ◌&&◌, fold}
 use Rattle.std.specs.Prelude.{codes}
 use Rattle.dom_tree.specs.Names.{value_named}
 use Rattle.dom_tree.proofs.Points.{parent_read, children_read}
@@ -7,7 +7,7 @@ use Rattle.std.proofs.lemmas.Bool.{cases_Bool, cases_lt, cond-true, cond-false, 
 use Rattle.std.proofs.lemmas.List.{drop_all, nil_from_length}
 use Rattle.std.proofs.lemmas.Option.{slice_get-get_or, slice_get_past, slice_get_within, get_or_from_slice_get}
 use Rattle.std.specs.List.{slice_get, flat_map}
-use Rattle.dom_tree.specs.Nodes.{parent_in, is_document_in, is_document_kind, parent_of, children_of, is_one, is_child, times, way_up, Ends, ancestors, Fits}
+use Rattle.dom_tree.specs.Nodes.{parent_in, is_document_in, is_document_kind, parent_of, children_of, is_one, times, way_up, ancestors, Fits}
 use Rattle.dom_tree.specs.Order.{tree, in_order, first_that, has_id, has_id_in, is_element_kind, is_value, child_at, node_by_id}
 use Rattle.dom_tree.specs.declared.parts.DomNode.{DomNode}
 use Rattle.dom_tree.specs.declared.parts.Kind.{Kind}

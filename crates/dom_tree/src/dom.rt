@@ -151,10 +151,11 @@ impl Dom {
         ensures never { result ≡ Err DomFault.Full → ⊥ }
         ensures err { OnErr result (self.new ≡ self.old) }
     {
+        let found = is_child(&self.nodes, parent, before);
         if would_cycle(&self.nodes, parent, child) {
             return Err(DomFault::WouldCycle);
         }
-        if !is_child(&self.nodes, parent, before) {
+        if !found {
             return Err(DomFault::NotFound);
         }
         if child == before {

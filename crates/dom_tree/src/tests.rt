@@ -154,7 +154,11 @@ fn children_take_their_places(rt: HostRuntime) -> Result<(), Fail> {
         ((4, 2, None), Ok(()), "#,1,4|0<a,3|4<b|1<i|0<u,2|<s|'w|"),
         ((1, 2, None), Ok(()), "#,1,4|0<a,3,2|1<b|1<i|0<u|<s|'w|"),
         ((1, 3, None), Ok(()), start),
-        ((1, 6, Some(2)), Ok(()), "#,1,4|0<a,6,2,3|1<b|1<i|0<u|<s|1'w|"),
+        (
+            (1, 6, Some(2)),
+            Ok(()),
+            "#,1,4|0<a,6,2,3|1<b|1<i|0<u|<s|1'w|",
+        ),
         ((1, 3, Some(2)), Ok(()), "#,1,4|0<a,3,2|1<b|1<i|0<u|<s|'w|"),
         ((1, 4, Some(3)), Ok(()), "#,1|0<a,2,4,3|1<b|1<i|1<u|<s|'w|"),
         ((1, 2, Some(2)), Ok(()), start),
@@ -176,7 +180,10 @@ fn children_take_their_places(rt: HostRuntime) -> Result<(), Fail> {
 
 #[test]
 fn three_changes_of_one_page(rt: HostRuntime) -> Result<(), Fail> {
-    let mut dom = dom_of(rt.alloc(), b"<div id=a><b id=c></b></div><script>x</script>")?;
+    let mut dom = dom_of(
+        rt.alloc(),
+        b"<div id=a><b id=c></b></div><script>x</script>",
+    )?;
     let a = dom.by_id(&text(rt.alloc(), b"a")?);
     let c = dom.by_id(&text(rt.alloc(), b"c")?);
     assert_eq!(rt; (a, c), (Some(1), Some(2)));

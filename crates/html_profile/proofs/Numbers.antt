@@ -50,15 +50,15 @@ module _ (nodes : List DocNode) (node : DocNode) (p : ℕ) (numbered : IsNumbere
       let e = longer nodes node in
       ⊎_elim
       (λ last.
-        let here : parent_in (slice_get (nodes ++ node ∷ []) x) ≡ Some p = ap (λ n. parent_in (slice_get (nodes ++ node ∷ []) n)) last ∙ ap parent_in (at_last node nodes) ∙ parent_is in
-        let within : p < length nodes = holds.0 in
-        let less : p < x = omega arith in
-        (p, here, less, (holds_more nodes node p holds).1))
+      let here : parent_in (slice_get (nodes ++ node ∷ []) x) ≡ Some p = ap (λ n. parent_in (slice_get (nodes ++ node ∷ []) n)) last ∙ ap parent_in (at_last node nodes) ∙ parent_is in
+      let within : p < length nodes = holds.0 in
+      let less : p < x = omega arith in
+      (p, here, less, (holds_more nodes node p holds).1))
       (λ other.
-        let within : x < length nodes = omega arith in
-        let old = numbered.below x above within in
-        let less : old.0 < x = old.2 in
-        (old.0, ap parent_in (at_before node nodes x within) ∙ old.1, less, ap is_text_in (at_before node nodes old.0 (omega arith)) ∙ old.3))
+      let within : x < length nodes = omega arith in
+      let old = numbered.below x above within in
+      let less : old.0 < x = old.2 in
+      (old.0, ap parent_in (at_before node nodes x within) ∙ old.1, less, ap is_text_in (at_before node nodes old.0 (omega arith)) ∙ old.3))
       (cases_eq x (length nodes))
 
   more : IsNumbered (nodes ++ node ∷ [])

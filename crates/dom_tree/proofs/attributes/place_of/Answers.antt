@@ -1,4 +1,4 @@
-use Rattle.std.proofs.Common.{sym, ◌∙◌, arith}
+use Rattle.std.proofs.Common.{sym, ◌∙◌}
 use Rattle.dom_tree.proofs.Named.{value_given}
 use Rattle.dom_tree.proofs.attributes.place_of.Goals as goal
 

@@ -1,4 +1,4 @@
-use Rattle.dom_tree.specs.Changes.{at_end, put_before}
+use Rattle.dom_tree.specs.Changes.{put_before}
 use Rattle.dom_tree.proofs.Points.{put_ok}
 use Rattle.dom_tree.proofs.moves.add_before.Goals as goal
 

@@ -1,8 +1,8 @@
 use Rattle.std.proofs.Common.{sym, ap, subst, ◌∙◌, Some}
 use Rattle.dom_tree.specs.Nodes.{Fits}
-use Rattle.dom_tree.specs.Changes.{at_end, put_before, changed, with_parent, left}
+use Rattle.dom_tree.specs.Changes.{put_before, changed, with_parent, left}
 use Rattle.dom_tree.proofs.Points.{placed_within, there_behind, left_behind}
-use Rattle.dom_tree.proofs.Moved.{appended_fits, inserted_fits}
+use Rattle.dom_tree.proofs.Moved.{inserted_fits}
 use Rattle.dom_tree.proofs.moves.insert_child.Goals as goal
 
 pub returns-then-is_child-clause-ok : goal.returns-then-is_child-clause-ok

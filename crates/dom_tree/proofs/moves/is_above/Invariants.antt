@@ -1,6 +1,6 @@
 use Rattle.std.proofs.Common.{◌≡◌, ◌<◌, ◌==◌, ℕ, Some, length}
 use Rattle.std.specs.List.{list_any}
-use Rattle.dom_tree.specs.Nodes.{Fits, parent_of, way_up, Ends, ancestors}
+use Rattle.dom_tree.specs.Nodes.{parent_of, way_up, Ends, ancestors}
 use Rattle.dom_tree.proofs.moves.is_above.Given as goal
 
 abbrev pub invariant-loop-above : goal.invariant-loop-above

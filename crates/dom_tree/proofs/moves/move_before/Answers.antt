@@ -1,4 +1,4 @@
-use Rattle.dom_tree.specs.Changes.{at_end, put_before, without}
+use Rattle.dom_tree.specs.Changes.{put_before, without}
 use Rattle.dom_tree.proofs.Points.{put_changed}
 use Rattle.dom_tree.proofs.moves.move_before.Goals as goal
 

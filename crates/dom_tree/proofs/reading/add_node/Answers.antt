@@ -1,5 +1,4 @@
-use Rattle.std.proofs.Common.{◌≡◌, ◌<◌, ◌+◌, ◌∷◌, [], ◌++◌, length, take, drop, false, None, Some, sym, ap, subst, ◌∙◌, arith, rules}
-use Rattle.std.proofs.lemmas.Grind.{common_steps}
+use Rattle.std.proofs.Common.{◌≡◌, ◌<◌, ◌+◌, ◌∷◌, [], ◌++◌, length, take, false, sym, ap, subst, ◌∙◌, arith}
 use Rattle.dom_tree.specs.Nodes.{Fits}
 use Rattle.dom_tree.specs.Changes.{appended, would_cycle}
 use Rattle.html_profile.specs.Numbering.{parent_in}
@@ -30,7 +29,7 @@ returns-clause-front c =
     let node = node_is c.args.doc.now.nodes c.args.id c.node.result.now c.in_ok-node.node c.node.ensures c.in_ok-node.ensures in
     let is = c.deref_mut.ensures.value ∙ c.in_ok-push_node.ensures.ok ∙ ap (λ n. c.args.nodes.now.items ++ n ∷ []) node in
     let done_is : c.append_child.new.nodes ≡ appended c.in-Some.parent c.args.id (c.args.nodes.now.items ++ made_of c.args.doc.now.nodes c.args.id c.node.result.now ∷ []) =
-      c.in_ok-append_child-in-Some.ensures.ok ∙ ap (appended c.in-Some.parent c.args.id) is in
+    c.in_ok-append_child-in-Some.ensures.ok ∙ ap (appended c.in-Some.parent c.args.id) is in
     let len : c.push_node.new.nodes.len ≡ length c.append_child.new.nodes = omega (arith, c.deref_mut.ensures.len, c.append_child.auto.nodes) in
     let same : length c.push_node.new.nodes.items ≡ length c.append_child.new.nodes = omega (arith, ap length c.deref_mut.ensures.value, c.append_child.auto.nodes) in
     let whole = whole_list c.push_node.new.nodes.len c.append_child.new.nodes c.push_node.new.nodes.items len same in

@@ -1,4 +1,4 @@
-use Rattle.std.proofs.Common.{◌≡◌, ◌<◌, length, get_or, set, sym, ap, subst, ◌∙◌, arith, rules}
+use Rattle.std.proofs.Common.{◌≡◌, ◌<◌, length, set, sym, ap, subst, ◌∙◌, arith}
 use Rattle.dom_tree.specs.Changes.{changed}
 use Rattle.dom_tree.specs.Names.{with_value}
 use Rattle.dom_tree.proofs.Items.{set_is_changed}

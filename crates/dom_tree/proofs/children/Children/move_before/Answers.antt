@@ -1,8 +1,8 @@
-use Rattle.std.proofs.Common.{◌≡◌, true, sym, ap, ◌∙◌, rules, refl}
+use Rattle.std.proofs.Common.{◌≡◌, true, sym, ap, ◌∙◌, rules}
 use Rattle.std.specs.Prelude.{is_ok}
 use Rattle.std.proofs.lemmas.Bool.{cond-true}
 use Rattle.dom_tree.specs.Nodes.{times}
-use Rattle.dom_tree.specs.Changes.{without, put_before}
+use Rattle.dom_tree.specs.Changes.{without}
 use Rattle.dom_tree.proofs.Kids.{taken, put, times_without_other}
 use Rattle.dom_tree.proofs.children.Children.move_before.Goals as goal
 
