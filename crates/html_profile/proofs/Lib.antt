@@ -6,3 +6,4 @@ pub mod NameKeys
 pub mod Trees
 pub mod Pages
 pub mod OnePage
+pub mod Numbers

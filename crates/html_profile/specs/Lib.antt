@@ -9,3 +9,4 @@ pub mod Seen
 pub mod Building
 pub mod Page
 pub mod PageFault
+pub mod Numbering

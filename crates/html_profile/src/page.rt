@@ -4,6 +4,7 @@ ghost use Rattle.mug_text.specs.Text.{IsText};
 ghost use Rattle.html_profile.specs.FirstPlace.{mark_len};
 ghost use Rattle.html_profile.specs.Building.{state_of};
 ghost use Rattle.html_profile.specs.Page.{Page, IsPage, IsTree, opens_prelude, without_prelude};
+ghost use Rattle.html_profile.specs.Numbering.{IsNumbered};
 ghost use Rattle.html_profile.specs.PageFault.{Refuses};
 
 use crate::document::{DocNode, HandlerAt, ScriptAt};
@@ -59,9 +60,11 @@ impl Model for Document {
 
     ghost Value = { Page };
 
+    ghost use Rattle.html_profile.specs.Numbering.{IsNumbered};
+
     ghost view = { λ d. record { nodes = d.nodes.items; scripts = d.scripts.items; handlers = d.handlers.items } };
 
-    ghost invariant = { λ d. length d.nodes.items < 2 ^ 32 };
+    ghost invariant = { λ d. (length d.nodes.items < 2 ^ 32) × IsNumbered d.nodes.items };
 }
 
 impl Document {
@@ -75,7 +78,8 @@ impl Document {
 
     /// How many nodes there are.
     pub fn count(&self) -> u32
-        ensures { result ≡ length self.now.nodes }
+        ensures is { result ≡ length self.now.nodes }
+        ensures numbered { IsNumbered self.now.nodes }
     {
         self.nodes.len() as u32
     }

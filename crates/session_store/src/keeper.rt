@@ -1,4 +1,4 @@
-// Commits frames to a session file, each durable before its gate is opened.
+// Commits frames to a session file, each written and synced before its gate is opened.
 ghost use Rattle.std.specs.Prelude.{◌≡◌, ◌≢◌, ◌⊎◌, ℕ, ◌+◌, ◌-◌, ◌*◌, ◌<◌, ◌≤◌, ◌^◌, List, [], ◌∷◌, ◌++◌, length, drop, Some, None, option_map, IfSome, IfOk, OnOk, OnErr, IsErrOf, true, false, vec_capacity};
 ghost use Rattle.mug_outside.specs.Cause.{HasCause, Rose};
 ghost use Rattle.mug_disk.specs.Held.{Lifted, over};
@@ -135,6 +135,48 @@ impl Store {
         })
     }
 
+    /// The offset behind the last gate.
+    pub fn place(&self) -> u64
+        ensures { result ≡ self.now.place }
+    {
+        self.place
+    }
+
+    /// The number of frames.
+    pub fn frames(&self) -> u64
+        ensures { result ≡ self.now.frames }
+    {
+        self.frames
+    }
+
+    /// The number of inputs in all frames.
+    pub fn inputs(&self) -> u64
+        ensures { result ≡ self.now.inputs }
+    {
+        self.inputs
+    }
+
+    /// The number of writes and syncs that this store has made.
+    pub fn moments(&self) -> u64
+        ensures { result ≡ self.now.moments }
+    {
+        self.moments
+    }
+
+    /// Whether the disk has failed.
+    pub fn stopped(&self) -> bool
+        ensures { result ≡ self.now.stopped }
+    {
+        self.stopped
+    }
+
+    /// How many bytes a payload may have so that its commit takes no memory.
+    pub fn spare(&self) -> usize
+        ensures { result ≡ self.now.spare }
+    {
+        self.buffer.capacity().saturating_sub(5)
+    }
+
     /// Makes room, so that the commit of a payload of that many bytes takes no memory.
     pub fn reserve(&mut self, bytes: usize) -> Result<(), NoMemory>
         requires { bytes < 2 ^ 62 }
@@ -147,7 +189,7 @@ impl Store {
         Ok(())
     }
 
-    /// Adds a frame of this payload, in which there are so many inputs. At `Ok` it is durable. After a disk fault the store is stopped.
+    /// Adds a frame of this payload, in which there are so many inputs: the frame is written and synced before its gate is opened. After a disk fault the store is stopped.
     pub fn commit<D: Disk>(
         &mut self,
         disk: &mut D,

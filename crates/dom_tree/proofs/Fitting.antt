@@ -1,0 +1,116 @@
+-- Nodes that fit still fit where what ties them together stays.
+use Rattle.std.proofs.Common.{◌≡◌, ℕ, zero, suc, ◌<◌, ◌≤◌, true, false, cond, List, [], ◌∷◌, ◌++◌, length, get_or, set, Option, Some, None, refl, sym, ap, subst, ◌∙◌, arith, ⊎_elim, length-append}
+use Rattle.std.specs.Prelude.{OnOk, Result, Ok, Err}
+use Rattle.std.proofs.lemmas.Bool.{cases_eq, false≢true}
+use Rattle.std.proofs.lemmas.Option.{slice_get-get_or}
+use Rattle.std.specs.List.{slice_get}
+use Rattle.std.specs.Option.{option_map}
+use Rattle.html_profile.specs.declared.document.DocAttribute.{DocAttribute}
+use Rattle.dom_tree.specs.Nodes.{parent_in, children_in, is_text_in, is_document_in, is_text_kind, is_document_kind, parent_of, children_of, is_text, is_one, times, Ends, Fits}
+use Rattle.dom_tree.specs.Changes.{changed}
+use Rattle.dom_tree.specs.Names.{with_attributes, with_text, with_own_value}
+use Rattle.dom_tree.specs.declared.parts.DomNode.{DomNode}
+use Rattle.dom_tree.specs.declared.parts.Kind.{Kind}
+use Rattle.dom_tree.specs.declared.parts.Kind.TheVariants.{Document, Element, Text}
+use Rattle.dom_tree.proofs.Items.{length_changed, set_is_changed, at_changed, beside_changed}
+use Rattle.dom_tree.proofs.Ways.{Ends_more}
+
+Ends_same : (old new : ℕ → Option ℕ) → ((x : ℕ) → new x ≡ old x) → (k : ℕ) (x : Option ℕ) → Ends old k x → Ends new k x
+Ends_same old new same zero None ends = tt
+Ends_same old new same zero (Some x) ends = absurd ends
+Ends_same old new same (suc k) None ends = tt
+Ends_same old new same (suc k) (Some x) ends = subst (Ends new k) (sym (same x)) (Ends_same old new same k (old x) ends)
+
+module _ (nodes after : List DomNode) (fits : Fits nodes) (longer : length nodes ≤ length after) (parents_same : (x : ℕ) → parent_of after x ≡ parent_of nodes x)
+    (children_same : (x : ℕ) → children_of after x ≡ children_of nodes x) (texts_same : (x : ℕ) → x < length nodes → is_text after x ≡ is_text nodes x)
+    (document_same : is_document_in (slice_get after 0) ≡ is_document_in (slice_get nodes 0)) where
+  old_parent : (x p : ℕ) → parent_of after x ≡ Some p → (p < length nodes) × (is_text nodes p ≡ false)
+  old_parent x p is = fits.parents x p (sym (parents_same x) ∙ is)
+
+  new_parent : (x p : ℕ) → parent_of after x ≡ Some p → (p < length after) × (is_text after p ≡ false)
+  new_parent x p is =
+      let old = old_parent x p is in
+      let inside : p < length nodes = old.0 in
+      (omega arith, texts_same p inside ∙ old.1)
+
+  pub kept_fits : Fits after
+  kept_fits = record {
+    document = document_same ∙ fits.document;
+    top = parents_same 0 ∙ fits.top;
+    children = λ x c. ap (times c) (children_same x) ∙ fits.children x c ∙ ap (λ o. cond (is_one x o) 1 0) (sym (parents_same c));
+    parents = new_parent;
+    ends = λ x. Ends_more (parent_of after) (length nodes) (length after) (Some x) longer (Ends_same (parent_of nodes) (parent_of after) parents_same (length nodes) (Some x) (fits.ends x));
+  }
+
+kept_at : {Y : Type 0} (r : Option DomNode → Y) (f : DomNode → DomNode) (i : ℕ) (nodes : List DomNode) → r (option_map f (slice_get nodes i)) ≡ r (slice_get nodes i) → (x : ℕ)
+    → r (slice_get (changed f i nodes) x) ≡ r (slice_get nodes x)
+kept_at r f i nodes same x =
+    ⊎_elim
+    (λ is. subst (λ v. r (slice_get (changed f i nodes) v) ≡ r (slice_get nodes v)) is (ap r (at_changed f i nodes) ∙ same))
+    (λ apart. ap r (beside_changed f i nodes x apart))
+    (cases_eq i x)
+
+module _ (nodes : List DomNode) (fits : Fits nodes) (i : ℕ) (d : DomNode) (inside : i < length nodes) where
+  changed_fits : (f : DomNode → DomNode) → parent_in (option_map f (slice_get nodes i)) ≡ parent_in (slice_get nodes i) → children_in (option_map f (slice_get nodes i)) ≡ children_in (slice_get nodes i)
+      → is_text_in (option_map f (slice_get nodes i)) ≡ is_text_in (slice_get nodes i) → is_document_in (option_map f (slice_get nodes i)) ≡ is_document_in (slice_get nodes i) → Fits (changed f i nodes)
+  changed_fits f p c t k =
+      kept_fits nodes (changed f i nodes) fits (let e = length_changed f i nodes in omega arith) (kept_at parent_in f i nodes p) (kept_at children_in f i nodes c) (λ x within. kept_at is_text_in f i nodes t x)
+      (kept_at is_document_in f i nodes k 0)
+
+  here : slice_get nodes i ≡ Some (get_or nodes i d)
+  here = slice_get-get_or nodes i d inside
+
+  same_here : {Y : Type 0} (r : Option DomNode → Y) (f : DomNode → DomNode) → r (Some (f (get_or nodes i d))) ≡ r (Some (get_or nodes i d)) → r (option_map f (slice_get nodes i)) ≡ r (slice_get nodes i)
+  same_here r f same = ap (λ o. r (option_map f o)) here ∙ same ∙ ap r (sym here)
+
+  pub attributes_fit : (new : List DocAttribute) → Fits (set nodes i (record (get_or nodes i d) { attributes = new }))
+  attributes_fit new =
+      let f : DomNode → DomNode = λ node. record node { attributes = new } in
+      subst Fits (sym (set_is_changed f i nodes d inside)) (changed_fits f (same_here parent_in f refl) (same_here children_in f refl) (same_here is_text_in f refl) (same_here is_document_in f refl))
+
+  pub value_fits : (value : List ℕ) → Fits (set nodes i (record (get_or nodes i d) { value = Some value }))
+  value_fits value =
+      let f = with_own_value value in
+      subst Fits (sym (set_is_changed f i nodes d inside)) (changed_fits f (same_here parent_in f refl) (same_here children_in f refl) (same_here is_text_in f refl) (same_here is_document_in f refl))
+
+  text_kind : (k : Kind) → is_text_kind k ≡ true → is_document_kind k ≡ false
+  text_kind Document is = absurd (false≢true is)
+  text_kind (Element name) is = absurd (false≢true is)
+  text_kind (Text text) is = refl
+
+  pub text_fits : (text : List ℕ) → is_text nodes i ≡ true → Fits (set nodes i (record (get_or nodes i d) { kind = Text text }))
+  text_fits text is =
+      let f = with_text text in
+      let was : is_text_kind (get_or nodes i d).kind ≡ true = ap is_text_in (sym here) ∙ is in
+      subst Fits (sym (set_is_changed f i nodes d inside))
+      (changed_fits f (same_here parent_in f refl) (same_here children_in f refl) (same_here is_text_in f (sym was)) (same_here is_document_in f (sym (text_kind (get_or nodes i d).kind was))))
+
+pub attributes_ok : {T E : Type 0} (r : Result T E) (f : List DocAttribute → List DocAttribute) (nodes : List DomNode) (i : ℕ) (d : DomNode) (new : List DocAttribute) → i < length nodes
+    → OnOk r (new ≡ f (get_or nodes i d).attributes) → OnOk r (set nodes i (record (get_or nodes i d) { attributes = new }) ≡ changed (with_attributes f) i nodes)
+attributes_ok (Ok v) f nodes i d new inside is = ap (λ l. set nodes i (record (get_or nodes i d) { attributes = l })) is ∙ set_is_changed (with_attributes f) i nodes d inside
+attributes_ok (Err e) f nodes i d new inside is = tt
+
+-- one more node, outside the document
+grown_same : {Y : Type 0} (r : Option DomNode → Y) (node : DomNode) → r (Some node) ≡ r None → (nodes : List DomNode) (x : ℕ) → r (slice_get (nodes ++ node ∷ []) x) ≡ r (slice_get nodes x)
+grown_same r node same [] zero = same
+grown_same r node same [] (suc x) = refl
+grown_same r node same (n ∷ nodes) zero = refl
+grown_same r node same (n ∷ nodes) (suc x) = grown_same r node same nodes x
+
+pub grown_before : (node : DomNode) (nodes : List DomNode) (x : ℕ) → x < length nodes → slice_get (nodes ++ node ∷ []) x ≡ slice_get nodes x
+grown_before node [] x inside = absurd (omega arith)
+grown_before node (n ∷ nodes) zero inside = refl
+grown_before node (n ∷ nodes) (suc x) inside = grown_before node nodes x (omega arith)
+
+pub grown_last : (node : DomNode) (nodes : List DomNode) → slice_get (nodes ++ node ∷ []) (length nodes) ≡ Some node
+grown_last node [] = refl
+grown_last node (n ∷ nodes) = grown_last node nodes
+
+some_node : (nodes : List DomNode) → is_document_in (slice_get nodes 0) ≡ true → 0 < length nodes
+some_node [] is = absurd (false≢true is)
+some_node (node ∷ nodes) is = omega arith
+
+pub grown_fits : (nodes : List DomNode) → Fits nodes → (node : DomNode) → node.parent ≡ None → node.children ≡ [] → Fits (nodes ++ node ∷ [])
+grown_fits nodes fits node alone childless =
+    kept_fits nodes (nodes ++ node ∷ []) fits (omega (arith, length-append nodes (node ∷ []))) (grown_same parent_in node alone nodes) (grown_same children_in node childless nodes)
+    (λ x inside. ap is_text_in (grown_before node nodes x inside)) (ap is_document_in (grown_before node nodes 0 (some_node nodes fits.document)))

@@ -1,0 +1,11 @@
+pub mod Units
+pub mod Items
+pub mod Kids
+pub mod Ways
+pub mod Points
+pub mod Steps
+pub mod Moved
+pub mod Named
+pub mod Fitting
+pub mod Walks
+pub mod Fronts

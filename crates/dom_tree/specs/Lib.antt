@@ -1,0 +1,5 @@
+pub mod Nodes
+pub mod Changes
+pub mod Names
+pub mod Order
+pub mod Reading

@@ -1,0 +1,20 @@
+//! Documents: the nodes of a page, and the changes that a script makes to them.
+#![tactic(auto)]
+
+mod attributes;
+mod children;
+mod dom;
+mod moves;
+mod order;
+mod parts;
+mod reading;
+mod words;
+mod writes;
+
+pub use attributes::Attributes;
+pub use children::Children;
+pub use dom::{Dom, DomFault};
+pub use parts::{DomNode, Kind, NewNode};
+
+#[cfg(test)]
+mod tests;
