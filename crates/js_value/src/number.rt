@@ -80,10 +80,7 @@ impl Num {
         ensures { result ≡ num_equal self other }
     {
         match self {
-            Num::Whole(a) => match other {
-                Num::Whole(b) => a.get() == b.get(),
-                Num::NaN => false,
-            },
+            Num::Whole(a) => matches!(other, Num::Whole(b) if a.get() == b.get()),
             Num::NaN => false,
         }
     }
