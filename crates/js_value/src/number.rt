@@ -1,5 +1,5 @@
 // Numbers.
-ghost use Rattle.std.specs.Prelude.{◌≡◌, Some, None, IsTrue, if◌then◌else◌};
+ghost use Rattle.std.specs.Prelude.{◌≡◌, Some, None, pos, if◌then◌else◌};
 ghost use Rattle.js_value.specs.Range.{is_safe, IsSafe};
 
 use std::marker::Model;
@@ -43,6 +43,26 @@ impl Integer {
         ensures range { IsSafe self }
     {
         self.value
+    }
+}
+
+impl From<i32> for Integer {
+    ghost from_gives = { λ n integer. integer ≡ n };
+
+    fn from(value: i32) -> Integer {
+        Integer {
+            value: i64::from(value),
+        }
+    }
+}
+
+impl From<u32> for Integer {
+    ghost from_gives = { λ n integer. integer ≡ pos n };
+
+    fn from(value: u32) -> Integer {
+        Integer {
+            value: i64::from(value),
+        }
     }
 }
 
