@@ -12,3 +12,6 @@ pub use laws::{conversions_look_at_images, rows_look_at_images};
 pub use number::{Arith, Bits};
 pub use operators::{add, arith, bits, equal_primitives, less};
 pub use throws::{AddThrow, RangeThrow};
+
+#[cfg(test)]
+mod tests;
