@@ -1,0 +1,3 @@
+pub mod Convert
+pub mod Numbers
+pub mod Rows

@@ -1,0 +1,5 @@
+pub mod Image
+pub mod Number
+pub mod Numeral
+pub mod Range
+pub mod Same
