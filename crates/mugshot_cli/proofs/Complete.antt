@@ -7,7 +7,7 @@ use Rattle.session_store.proofs.Unique.{one_found}
 use Rattle.mugshot_cli.specs.Listing.{ListCause, ListTold, Listed}
 use Rattle.mugshot_cli.specs.Outcome.{status_of}
 use Rattle.mugshot_cli.specs.declared.outcome.Outcome.{Outcome}
-use Rattle.mugshot_cli.specs.declared.outcome.Outcome.TheVariants.{Done, Usage, NotASession, Damaged, NotBuilt, DiskFault, WriteFault, NoMemory}
+use Rattle.mugshot_cli.specs.declared.outcome.Outcome.TheVariants.{Done, Usage, PageTooLarge, PageNotUtf8, BadArrivals, Budget, NotEmpty, NotASession, Damaged, Diverged, Full, ReadFault, DiskFault, WriteFault, NoMemory, NotBuilt}
 use Rattle.mugshot_cli.specs.declared.outcome.Status.TheVariants as status
 
 pub done_or_starved : (r : Outcome) (bytes : List ℕ) (items : List LogItem) (end : ℕ) (taken taken' : Option (List ℕ)) (disk disk' out out' : ℕ) → Recovers bytes (Whole items end)
@@ -17,6 +17,14 @@ done_or_starved NoMemory bytes items end taken taken' disk disk' out out' whole 
 done_or_starved WriteFault bytes items end taken taken' disk disk' out out' whole told cause disk_still out_still = absurd (out_still cause)
 done_or_starved DiskFault bytes items end taken taken' disk disk' out out' whole told cause disk_still out_still = absurd (disk_still cause)
 done_or_starved Usage bytes items end taken taken' disk disk' out out' whole told cause disk_still out_still = absurd told
+done_or_starved PageTooLarge bytes items end taken taken' disk disk' out out' whole told cause disk_still out_still = absurd told
+done_or_starved (PageNotUtf8 at) bytes items end taken taken' disk disk' out out' whole told cause disk_still out_still = absurd told
+done_or_starved (BadArrivals line kind) bytes items end taken taken' disk disk' out out' whole told cause disk_still out_still = absurd told
+done_or_starved (Budget steps) bytes items end taken taken' disk disk' out out' whole told cause disk_still out_still = absurd told
+done_or_starved NotEmpty bytes items end taken taken' disk disk' out out' whole told cause disk_still out_still = absurd told
+done_or_starved (Diverged entry wanted found) bytes items end taken taken' disk disk' out out' whole told cause disk_still out_still = absurd told
+done_or_starved Full bytes items end taken taken' disk disk' out out' whole told cause disk_still out_still = absurd told
+done_or_starved ReadFault bytes items end taken taken' disk disk' out out' whole told cause disk_still out_still = absurd told
 done_or_starved NotASession bytes items end taken taken' disk disk' out out' whole told cause disk_still out_still =
     let e : NoHeader ≡ Whole items end = one_found bytes NoHeader (Whole items end) told.0 whole in cc
 done_or_starved (Damaged at) bytes items end taken taken' disk disk' out out' whole told cause disk_still out_still =

@@ -2,3 +2,13 @@ pub mod Command
 pub mod Outcome
 pub mod Listing
 pub mod Top
+pub mod Machine
+pub mod Run
+pub mod Running
+pub mod Tracing
+pub mod Replayed
+pub mod Replaying
+pub mod Grouping
+pub mod Recording
+pub mod Thin
+pub mod Capturing

@@ -8,7 +8,7 @@ use Rattle.input_log.specs.declared.item.LogItem.TheVariants.{Head, Load, Now, R
 use Rattle.session_store.specs.Session.{AreItems, is_input, payload_of}
 use Rattle.session_store.specs.Recovery.{NoHeader, Broken, Whole, Recovers}
 use Rattle.mugshot_cli.specs.declared.outcome.Outcome.{Outcome}
-use Rattle.mugshot_cli.specs.declared.outcome.Outcome.TheVariants.{Done, Usage, NotASession, Damaged, NotBuilt, DiskFault, WriteFault, NoMemory}
+use Rattle.mugshot_cli.specs.declared.outcome.Outcome.TheVariants.{Done, Usage, PageTooLarge, PageNotUtf8, BadArrivals, Budget, NotEmpty, NotASession, Damaged, Diverged, Full, ReadFault, DiskFault, WriteFault, NoMemory, NotBuilt}
 
 -- a word, a number and a line feed
 abbrev pub numbered_line : List ℕ → ℕ → List ℕ
@@ -55,6 +55,14 @@ ListTold NotBuilt bytes taken taken' = ((at : ℕ) × (payload : List ℕ) × Re
 ListTold DiskFault bytes taken taken' = taken' ≡ taken
 ListTold NoMemory bytes taken taken' = (taken' ≡ taken) ⊎ ((items : List LogItem) × (end : ℕ) × Recovers bytes (Whole items end) × TookPart (list_text items) taken taken')
 ListTold Usage bytes taken taken' = ⊥
+ListTold PageTooLarge bytes taken taken' = ⊥
+ListTold (PageNotUtf8 at) bytes taken taken' = ⊥
+ListTold (BadArrivals line kind) bytes taken taken' = ⊥
+ListTold (Budget steps) bytes taken taken' = ⊥
+ListTold NotEmpty bytes taken taken' = ⊥
+ListTold (Diverged entry wanted found) bytes taken taken' = ⊥
+ListTold Full bytes taken taken' = ⊥
+ListTold ReadFault bytes taken taken' = ⊥
 
 -- by the counts of faults of the disk and of `out`
 abbrev pub ListCause : Outcome → ℕ → ℕ → ℕ → ℕ → Type 0
@@ -66,6 +74,14 @@ ListCause NotBuilt disk disk' out out' = Unit {0}
 ListCause DiskFault disk disk' out out' = Rose disk disk'
 ListCause NoMemory disk disk' out out' = Unit {0}
 ListCause Usage disk disk' out out' = ⊥
+ListCause PageTooLarge disk disk' out out' = ⊥
+ListCause (PageNotUtf8 at) disk disk' out out' = ⊥
+ListCause (BadArrivals line kind) disk disk' out out' = ⊥
+ListCause (Budget steps) disk disk' out out' = ⊥
+ListCause NotEmpty disk disk' out out' = ⊥
+ListCause (Diverged entry wanted found) disk disk' out out' = ⊥
+ListCause Full disk disk' out out' = ⊥
+ListCause ReadFault disk disk' out out' = ⊥
 
 -- what `list` did, and why
 pub record Listed (r : Outcome) (held held' : Option (List ℕ)) (moment moment' : ℕ) (taken taken' : Option (List ℕ)) (disk disk' out out' : ℕ) : Type 0 where

@@ -1,7 +1,8 @@
 // The words of a command line.
-ghost use Rattle.std.specs.Prelude.{◌≡◌, ℕ, ◌↔◌, List, map, IfOk, IsErrOf, IsTrue, string_bytes};
-ghost use Rattle.mugshot_cli.specs.Command.{IsFileName, Spells, SpellsNone};
+ghost use Rattle.std.specs.Prelude.{◌≡◌, ◌≢◌, ◌↔◌, ◌≤◌, ℕ, List, [], ◌∷◌, decimal, map, IfOk, IsErrOf, IsTrue, MatchOption, string_bytes};
+ghost use Rattle.mugshot_cli.specs.Command.{AreSteps, HasFiles, IsFileName, Spells, SpellsNone};
 
+use crate::thin::number;
 use mug_text::Bytes;
 use std::alloc::Global;
 use thiserror::Error;
@@ -10,7 +11,20 @@ use thiserror::Error;
 #[derive(Debug, Drop)]
 pub enum Command {
     /// `list SESSION`
-    List { session: Bytes },
+    List {
+        session: Bytes,
+    },
+    /// `replay SESSION`
+    Replay {
+        session: Bytes,
+    },
+    /// `capture PAGE ARRIVALS SESSION [--steps N]`, with the budget in page steps.
+    Capture {
+        page: Bytes,
+        arrivals: Bytes,
+        session: Bytes,
+        steps: u64,
+    },
 }
 
 /// Why the words are no command.
@@ -22,10 +36,93 @@ pub enum UsageFault {
     NoMemory,
 }
 
+/// The budget where none is given.
+const STEPS: u64 = 10_000_000;
+
+/// The largest budget.
+const MOST_STEPS: u64 = 1_000_000_000;
+
 fn is_file_name(word: &str) -> bool
     ensures { IsTrue result ↔ IsFileName word.now }
 {
     !word.is_empty() && !word.starts_with("--")
+}
+
+// A file's name.
+fn name_of(alloc: Global, word: &str) -> Result<Bytes, UsageFault>
+    ensures ok { IfOk result (λ name. IsFileName name × (name ≡ word.now)) }
+    ensures usage { IsErrOf result UsageFault.Usage → IsFileName word.now → ⊥ }
+{
+    if !is_file_name(word) {
+        return Err(UsageFault::Usage);
+    }
+    match Bytes::of(alloc, word.as_bytes()) {
+        Ok(name) => Ok(name),
+        Err(_) => Err(UsageFault::NoMemory),
+    }
+}
+
+// The one file that the words name.
+fn one_file(alloc: Global, words: &[String]) -> Result<Bytes, UsageFault>
+    ensures ok { IfOk result (λ name. IsFileName name × (map (λ word. string_bytes word) words.now ≡ name ∷ [])) }
+    ensures usage { IsErrOf result UsageFault.Usage → (name : List ℕ) → IsFileName name → map (λ word. string_bytes word) words.now ≢ name ∷ [] }
+{
+    match words {
+        [word] => name_of(alloc, word),
+        _ => Err(UsageFault::Usage),
+    }
+}
+
+// A budget as it is spelled.
+fn budget_of(word: &str) -> Option<u64>
+    ensures { MatchOption result ((n : ℕ) → 1 ≤ n → n ≤ 1000000000 → word.now ≢ decimal n) (λ n. (1 ≤ n) × (n ≤ 1000000000) × (word.now ≡ decimal n)) }
+{
+    let n = number(word.as_bytes())?;
+    if n < 1 || n > MOST_STEPS {
+        return None;
+    }
+    Some(n)
+}
+
+// The budget that an option's words give.
+fn steps_of(words: &[String]) -> Option<u64>
+    ensures { MatchOption result ((n : ℕ) → AreSteps (map (λ word. string_bytes word) words.now) n → ⊥) (λ n. AreSteps (map (λ word. string_bytes word) words.now) n) }
+{
+    match words {
+        [] => Some(STEPS),
+        [option, spelled] => {
+            if option.as_str() != "--steps" {
+                return None;
+            }
+            let n = budget_of(spelled)?;
+            Some(n)
+        }
+        _ => None,
+    }
+}
+
+// The files and the budget of a capture.
+fn capture_of(alloc: Global, words: &[String]) -> Result<Command, UsageFault>
+    ensures ok { IfOk result (λ command. HasFiles (map (λ word. string_bytes word) words.now) command) }
+    ensures usage { IsErrOf result UsageFault.Usage → (c : Command) → HasFiles (map (λ word. string_bytes word) words.now) c → ⊥ }
+{
+    match words {
+        [page, arrivals, session, option @ ..] => {
+            let Some(steps) = steps_of(option) else {
+                return Err(UsageFault::Usage);
+            };
+            let page = name_of(alloc, page)?;
+            let arrivals = name_of(alloc, arrivals)?;
+            let session = name_of(alloc, session)?;
+            Ok(Command::Capture {
+                page,
+                arrivals,
+                session,
+                steps,
+            })
+        }
+        _ => Err(UsageFault::Usage),
+    }
 }
 
 /// Reads the words of a command line, without the program's name.
@@ -34,15 +131,18 @@ pub fn read_words(alloc: Global, words: &[String]) -> Result<Command, UsageFault
     ensures usage { IsErrOf result UsageFault.Usage → SpellsNone (map (λ word. string_bytes word) words.now) }
 {
     match words {
-        [name, session] => {
-            if name.as_str() != "list" || !is_file_name(session) {
-                return Err(UsageFault::Usage);
+        [name, files @ ..] => match name.as_str() {
+            "list" => {
+                let session = one_file(alloc, files)?;
+                Ok(Command::List { session })
             }
-            match Bytes::of(alloc, session.as_bytes()) {
-                Ok(session) => Ok(Command::List { session }),
-                Err(_) => Err(UsageFault::NoMemory),
+            "replay" => {
+                let session = one_file(alloc, files)?;
+                Ok(Command::Replay { session })
             }
-        }
+            "capture" => capture_of(alloc, files),
+            _ => Err(UsageFault::Usage),
+        },
         _ => Err(UsageFault::Usage),
     }
 }

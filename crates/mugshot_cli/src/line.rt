@@ -1,13 +1,13 @@
 // Lines that are made without memory.
 ghost use Rattle.std.specs.Prelude.{◌≡◌, ℕ, ◌+◌, ◌<◌, ◌≤◌, List, [], ◌++◌, length, take, decimal, OnOk, OnErr};
-ghost use Rattle.mug_outside.specs.Told.{behind, TookPart};
+ghost use Rattle.mug_outside.specs.Told.{behind, TookLess, TookPart};
 ghost use Rattle.mug_outside.specs.Cause.{HasCause};
 
 use itoa::Buffer;
 use mug_outside::{Sink, WriteFault, write_whole};
 use std::marker::Model;
 
-const CAPACITY: usize = 128;
+const CAPACITY: usize = 512;
 
 /// A line of at most `CAPACITY` bytes.
 #[derive(Drop)]
@@ -21,7 +21,7 @@ impl Model for Line {
 
     ghost view = { λ l. take l.len l.bytes };
 
-    ghost invariant = { λ l. l.len ≤ 128 };
+    ghost invariant = { λ l. l.len ≤ 512 };
 }
 
 impl Line {
@@ -35,7 +35,7 @@ impl Line {
     }
 
     pub fn push(&mut self, text: &[u8])
-        requires { length self.old + length text.now ≤ 128 }
+        requires { length self.old + length text.now ≤ 512 }
         ensures { self.new ≡ self.old ++ text.now }
     {
         let end = self.len + text.len();
@@ -45,7 +45,7 @@ impl Line {
 
     /// The number in decimal digits, of which there are at most 40.
     pub fn push_number(&mut self, n: u64)
-        requires { length self.old + 40 ≤ 128 }
+        requires { length self.old + 40 ≤ 512 }
         ensures grown { self.new ≡ self.old ++ decimal n }
         ensures short { length self.new ≤ length self.old + 40 }
     {
@@ -56,6 +56,7 @@ impl Line {
     pub fn write<O: Sink>(&self, out: &mut O) -> Result<(), WriteFault>
         ensures ok { OnOk result (O.taken out.new ≡ behind self.now (O.taken out.old)) }
         ensures err { OnErr result (TookPart self.now (O.taken out.old) (O.taken out.new)) }
+        ensures less { OnErr result (TookLess self.now (O.taken out.old) (O.taken out.new)) }
         ensures cause { HasCause (O.faults out.old) (O.faults out.new) result }
     {
         write_whole(out, &self.bytes[..self.len])

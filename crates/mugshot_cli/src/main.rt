@@ -1,25 +1,42 @@
 //! Records what a page takes in from outside, and replays it.
 #![tactic(auto)]
 
+mod capturing;
 mod command;
 mod damage;
+mod end;
+mod laws;
 mod line;
 mod listing;
+mod moves;
 mod outcome;
+mod page;
+mod plain;
 mod printing;
+mod recorder;
+mod recording;
 mod refusal;
 #[cfg(test)]
+mod replay_tests;
+mod replayed;
+mod replaying;
+mod summary;
+#[cfg(test)]
 mod tests;
+mod thin;
+#[cfg(test)]
+mod thin_tests;
 mod top;
+mod tracing;
 
 use command::{Command, UsageFault, read_words};
 use mug_disk::FileDisk;
-use mug_outside::{MemSource, StdSink};
+use mug_outside::{StdSink, StdSource};
 use mug_text::{Bytes, NoMemory};
 use outcome::{Outcome, Status};
 use refusal::say;
 use std::alloc::Global;
-use std::fs::File;
+use std::fs::{File, OpenOptions};
 use std::process::ExitCode;
 use std::{fs, io, str};
 use top::mugshot;
@@ -41,16 +58,74 @@ fn words(rt: &HostRuntime) -> Result<Vec<String>, NoMemory> {
     }
 }
 
-// The session that the command reads, for reading alone. One that can't be opened fails at each call.
-fn session(rt: &HostRuntime, command: &Command) -> FileDisk<File> {
-    match command {
-        Command::List { session } => match str::from_utf8(session.as_slice()) {
-            Ok(path) => match fs::open(rt, path) {
-                Ok(file) => FileDisk::new(file),
-                Err(_) => FileDisk::missing(),
-            },
+// A file of that name, for reading alone. One that can't be opened fails at each call.
+fn source(rt: &HostRuntime, name: &Bytes) -> StdSource<File> {
+    match str::from_utf8(name.as_slice()) {
+        Ok(path) => match fs::open(rt, path) {
+            Ok(file) => StdSource::new(file),
+            Err(_) => StdSource::missing(),
+        },
+        Err(_) => StdSource::missing(),
+    }
+}
+
+// A session that is read.
+fn read_session(rt: &HostRuntime, name: &Bytes) -> FileDisk<File> {
+    match str::from_utf8(name.as_slice()) {
+        Ok(path) => match fs::open(rt, path) {
+            Ok(file) => FileDisk::new(file),
             Err(_) => FileDisk::missing(),
         },
+        Err(_) => FileDisk::missing(),
+    }
+}
+
+// A session that is written, made where it isn't there.
+fn new_session(rt: &HostRuntime, name: &Bytes) -> FileDisk<File> {
+    let mut how = OpenOptions::new();
+    how.read(true).write(true).create(true);
+    match str::from_utf8(name.as_slice()) {
+        Ok(path) => match how.open(rt, path) {
+            Ok(file) => FileDisk::new(file),
+            Err(_) => FileDisk::missing(),
+        },
+        Err(_) => FileDisk::missing(),
+    }
+}
+
+// The files that a command names; the others are missing.
+#[derive(Drop)]
+struct Files {
+    page: StdSource<File>,
+    arrivals: StdSource<File>,
+    session: FileDisk<File>,
+}
+
+fn open_files(rt: &HostRuntime, command: &Command) -> Files {
+    match command {
+        Command::List { session } | Command::Replay { session } => Files {
+            page: StdSource::missing(),
+            arrivals: StdSource::missing(),
+            session: read_session(rt, session),
+        },
+        Command::Capture {
+            page,
+            arrivals,
+            session,
+            steps: _,
+        } => Files {
+            page: source(rt, page),
+            arrivals: source(rt, arrivals),
+            session: new_session(rt, session),
+        },
+    }
+}
+
+fn no_files() -> Files {
+    Files {
+        page: StdSource::missing(),
+        arrivals: StdSource::missing(),
+        session: FileDisk::missing(),
     }
 }
 
@@ -59,25 +134,22 @@ fn starved(rt: &HostRuntime) -> Status {
     Status::NoMemory
 }
 
-// Opens what the command names, hands in empty objects for the rest, and runs it.
+// Opens what the command names, and runs it.
 fn run(rt: &HostRuntime, alloc: Global) -> Status {
     let Ok(words) = words(rt) else {
         return starved(rt);
     };
-    let mut disk = match read_words(alloc, &words) {
-        Ok(command) => session(rt, &command),
-        Err(UsageFault::Usage) => FileDisk::missing(),
+    let mut files = match read_words(alloc, &words) {
+        Ok(command) => open_files(rt, &command),
+        Err(UsageFault::Usage) => no_files(),
         Err(UsageFault::NoMemory) => return starved(rt),
-    };
-    let (Ok(page), Ok(arrivals)) = (Bytes::of(alloc, &[]), Bytes::of(alloc, &[])) else {
-        return starved(rt);
     };
     mugshot(
         alloc,
         &words,
-        &mut MemSource::new(alloc, page),
-        &mut MemSource::new(alloc, arrivals),
-        &mut disk,
+        &mut files.page,
+        &mut files.arrivals,
+        &mut files.session,
         &mut StdSink::new(rt.stdout()),
         &mut StdSink::new(rt.stderr()),
     )

@@ -86,7 +86,8 @@ fn print_item<O: Sink>(alloc: Global, out: &mut O, item: &LogItem) -> Result<(),
     }
 }
 
-fn is_input(item: &LogItem) -> bool
+/// Whether the item is an input.
+pub fn is_input(item: &LogItem) -> bool
     ensures { result ≡ is_input item.now }
 {
     match item {
