@@ -136,3 +136,41 @@ fn bytes_that_are_no_page_are_refused(rt: HostRuntime) -> Result<(), Fail> {
     assert_eq!(rt; fault.to_string(rt.alloc())?.as_str(), "not utf-8 at 0");
     Ok(())
 }
+
+#[test]
+fn an_ordinary_page_is_numbered_in_its_order(rt: HostRuntime) -> Result<(), Fail> {
+    let page = b"<!doctype html>\n\
+<html><body><p id=\"g\"></p><button id=\"b\" onclick=\"n++;show()\">+</button>\n\
+<script>\n\
+var n = 0;\n\
+function show() { document.getElementById(\"g\").textContent = \"n=\" + n; }\n\
+setInterval(function () { n = n + 10; show(); }, 1000);\n\
+var x = new XMLHttpRequest();\n\
+x.open(\"GET\", \"/greet\");\n\
+x.onload = function () { console.log(x.status, x.responseText); };\n\
+x.send();\n\
+console.log(\"start\", Math.random() % 6, Date.now());\n\
+</script></body></html>\n";
+    assert_eq!(rt; page.len(), 447);
+    let want = "#|0'\\n|0<html|2<body|3<p id=g|3<button id=b onclick=n++;show()|5'+|";
+    let shown = lines(rt.alloc(), page)?;
+    assert!(rt; shown.as_str().starts_with(want), "{shown}");
+    let document = read_html(rt.alloc(), page)?;
+    let handlers = document.handlers();
+    assert_eq!(rt; handlers.len(), 1);
+    assert_eq!(rt; handlers[0].node, 5);
+    let scripts = document.scripts();
+    assert_eq!(rt; scripts.len(), 1);
+    assert_eq!(rt; scripts[0].node, 8);
+    Ok(())
+}
+
+#[test]
+fn a_page_is_read_wherever_it_is_cut(rt: HostRuntime) -> Result<(), Fail> {
+    let page = b"<!doctype html><!-- a > b --><?c d><p id=\"e&amp;f\" class='g' h=i&#65;j k>\
+<script>l < m && n</script><title>o &lt; &#x70;</title><br/></q></p>r &gt; s";
+    for end in 0..page.len() + 1 {
+        assert!(rt; read_html(rt.alloc(), &page[..end]).is_ok(), "at {end}");
+    }
+    Ok(())
+}
