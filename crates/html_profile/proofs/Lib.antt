@@ -3,6 +3,7 @@ pub mod Resolving
 pub mod Tags
 pub mod Attributes
 pub mod NameKeys
+pub mod LastOnes
 pub mod Trees
 pub mod Pages
 pub mod OnePage

@@ -53,3 +53,14 @@ pub one_more : (name : List ℕ) (key : Name) (s n : sorted.BTreeSet Name) → k
 one_more name key s n is h names had q =
     set_updates key.items s n true h q ∙ ap (λ k. cond (bytes_eq k q) true (has_name s q)) is ∙ ap (λ b. cond (bytes_eq name q) true b) (had q)
     ∙ or_from_cond (bytes_eq name q) (list_any (bytes_eq q) names) ∙ ap (λ b. b || list_any (bytes_eq q) names) (nat_list_eq_equiv.symm name q)
+
+less : (b l : Bool) → (b ≡ true → l ≡ false) → cond b false (b || l) ≡ l
+less true l f = sym (f refl)
+less false l f = refl
+
+-- a set with one less, a name that stood among them once
+pub one_less : (name : List ℕ) (s n : sorted.BTreeSet Name) → sorted.UpdatesBy name_cmp (λ k. slice_cmp nat_cmp name k.items) s n false
+    → (names : List (List ℕ)) → ((q : List ℕ) → has_name s q ≡ list_any (bytes_eq q) (name ∷ names)) → list_any (bytes_eq name) names ≡ false → (q : List ℕ) → has_name n q ≡ list_any (bytes_eq q) names
+one_less name s n h names had once q =
+    set_updates name s n false h q ∙ ap (cond (bytes_eq name q) false) (had q) ∙ ap (λ b. cond (bytes_eq name q) false (b || list_any (bytes_eq q) names)) (nat_list_eq_equiv.symm q name)
+    ∙ less (bytes_eq name q) (list_any (bytes_eq q) names) (λ y. subst (λ k. list_any (bytes_eq k) names ≡ false) ((bytes_decides name q).0 y) once)

@@ -1,11 +1,11 @@
 -- The nodes that pieces make are numbered.
-use Rattle.std.proofs.Common.{◌≡◌, ℕ, zero, suc, ◌+◌, ◌<◌, ◌≤◌, Bool, true, false, cond, List, [], ◌∷◌, ◌++◌, length, fold, Option, Some, None, refl, sym, ap, subst, ◌∙◌, arith, length-append, ⊎_elim}
+use Rattle.std.proofs.Common.{◌≡◌, ℕ, zero, suc, ◌+◌, ◌<◌, Bool, true, false, cond, List, [], ◌∷◌, ◌++◌, length, fold, Option, Some, None, refl, sym, ap, subst, ◌∙◌, arith, length-append, ⊎_elim}
 use Rattle.std.proofs.lemmas.Bool.{cases_eq, cases_Bool, false≢true, cond-true, cond-false}
 use Rattle.std.specs.List.{slice_get}
 use Rattle.std.specs.Str.{bytes_eq}
 use Rattle.html_profile.specs.Names.{is_void}
 use Rattle.html_profile.specs.Numbering.{parent_in, is_text_content, is_text_in, is_document_content, is_document_in, IsNumbered}
-use Rattle.html_profile.specs.Tree.{State, units, innermost, with_text, settled, closed, with_closed, opened, element_of, with_element, step, beginning, made}
+use Rattle.html_profile.specs.Tree.{State, units, innermost, with_text, settled, closed, with_closed, element_of, with_element, step, beginning}
 use Rattle.html_profile.specs.Page.{IsTree}
 use Rattle.html_profile.specs.declared.piece.Tag.{Tag}
 use Rattle.html_profile.specs.declared.piece.Piece.{Piece}

@@ -6,6 +6,7 @@ pub mod Pieces
 pub mod Names
 pub mod Tree
 pub mod Seen
+pub mod Standing
 pub mod Building
 pub mod Page
 pub mod PageFault

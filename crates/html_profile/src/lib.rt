@@ -10,6 +10,7 @@ mod piece;
 mod plain;
 mod prelude;
 mod seen;
+mod standing;
 mod tag;
 mod tree;
 

@@ -1,5 +1,5 @@
 // Names that were seen.
-ghost use Rattle.std.specs.Prelude.{◌≡◌, ◌∷◌, [], List, ℕ, not, IfOk, OnOk};
+ghost use Rattle.std.specs.Prelude.{◌≡◌, ◌∷◌, [], List, ℕ, false, not, IfOk, OnOk};
 ghost use Rattle.std.specs.List.{list_any};
 ghost use Rattle.std.specs.Str.{bytes_eq};
 ghost use Rattle.html_profile.specs.Seen.{HasNames};
@@ -24,6 +24,12 @@ impl Seen {
         }
     }
 
+    pub(crate) fn has(&self, name: &[u8]) -> bool
+        ensures { (names : List (List ℕ)) → HasNames self.now names → result ≡ list_any (bytes_eq name.now) names }
+    {
+        self.names.contains(name)
+    }
+
     /// Adds a name, and says whether it is a new one.
     pub(crate) fn add(&mut self, name: &[u8]) -> Result<bool, AllocError>
         ensures new { (names : List (List ℕ)) → HasNames self.old names → IfOk result (λ is_new. is_new ≡ not (list_any (bytes_eq name.now) names)) }
@@ -31,5 +37,11 @@ impl Seen {
     {
         let is_new = self.names.insert(name.to_vec(self.alloc)?)?;
         Ok(is_new)
+    }
+    /// Takes away a name that stands among them once.
+    pub(crate) fn remove(&mut self, name: &[u8])
+        ensures { (names : List (List ℕ)) → HasNames self.old (name.now ∷ names) → list_any (bytes_eq name.now) names ≡ false → HasNames self.new names }
+    {
+        self.names.remove(name);
     }
 }

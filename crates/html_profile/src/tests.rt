@@ -73,6 +73,10 @@ fn pages_are_read_as_trees(rt: HostRuntime) -> Result<(), Fail> {
             b"<div><p><i>x</div>y<img>z".as_slice(),
             "#|0<div|1<p|2<i|3'x|0'y|0<img|0'z|",
         ),
+        (
+            b"<a><b><a></b></b><c></a></a>x<b></b>y".as_slice(),
+            "#|0<a|1<b|2<a|1<c|0'x|0<b|0'y|",
+        ),
     ];
     for (page, want) in table {
         assert_eq!(rt; lines(rt.alloc(), page)?.as_str(), want, "of {page:?}");

@@ -2,12 +2,14 @@
 ghost use Rattle.std.specs.Prelude.{◌≡◌, ◌+◌, ◌-◌, ◌<◌, ◌≤◌, ◌^◌, ◌++◌, List, [], map, reverse, take, length, vec_len, IfOk, OnOk, Some, None, MatchOption};
 ghost use Rattle.html_profile.specs.Names.{firsts};
 ghost use Rattle.html_profile.specs.Tree.{units, settled, innermost, closed, shown_attribute, handler_of, handlers_of, script_of, element_of, with_element, with_closed, step, made, beginning};
-ghost use Rattle.html_profile.specs.Building.{state_of};
+ghost use Rattle.html_profile.specs.Building.{state_of, IsKnown};
+ghost use Rattle.html_profile.specs.Standing.{HasStanding, names_of};
 
 use crate::document::{Content, DocAttribute, DocNode, HandlerAt, ScriptAt};
 use crate::names::{is_handler, is_run, is_void, value_named};
 use crate::piece::{Piece, Tag};
 use crate::seen::Seen;
+use crate::standing::Standing;
 use crate::tag::Attribute;
 use mug_text::{Bytes, JText, Listed};
 use std::alloc::{AllocError, Global};
@@ -28,6 +30,7 @@ pub(crate) struct Builder {
     pub(crate) nodes: Vec<DocNode>,
     // Innermost last.
     elements: Vec<Open>,
+    standing: Standing,
     // The text behind the last tag.
     words: Vec<u8>,
     pub(crate) scripts: Vec<ScriptAt>,
@@ -90,6 +93,19 @@ fn nearest(elements: &[Open], name: &[u8]) -> Option<usize>
         }
     }
     None
+}
+
+// Takes away the names of all elements from this place on.
+fn forget(standing: &mut Standing, elements: &[Open], at: usize)
+    requires within { at ≤ length elements.now }
+    requires known { HasStanding standing.old (names_of (reverse elements.now)) }
+    ensures { HasStanding standing.new (names_of (reverse (take at elements.now))) }
+{
+    let mut end = elements.len();
+    while end > at {
+        end -= 1;
+        standing.pop(elements[end].name.as_slice());
+    }
 }
 
 fn push_handler(
@@ -180,6 +196,7 @@ impl Builder {
         ensures is { IfOk result (λ builder. state_of builder ≡ beginning) }
         ensures total { IfOk result (λ builder. builder.total ≡ total) }
         ensures nodes { IfOk result (λ builder. vec_len builder.nodes ≡ 1) }
+        ensures known { IfOk result IsKnown }
     {
         let mut nodes = Vec::new(alloc);
         nodes.push(DocNode {
@@ -191,6 +208,7 @@ impl Builder {
             total,
             nodes,
             elements: Vec::new(alloc),
+            standing: Standing::new(alloc),
             words: Vec::new(alloc),
             scripts: Vec::new(alloc),
             handlers: Vec::new(alloc),
@@ -212,6 +230,7 @@ impl Builder {
         ensures is { OnOk result (state_of self.new ≡ settled (state_of self.old)) }
         ensures total { self.new.total ≡ self.old.total }
         ensures elements { self.new.elements ≡ self.old.elements }
+        ensures standing { self.new.standing ≡ self.old.standing }
         ensures words { OnOk result (self.new.words.items ≡ []) }
         ensures nodes { vec_len self.new.nodes ≤ vec_len self.old.nodes + 1 }
     {
@@ -230,14 +249,20 @@ impl Builder {
 
     // Closes all up to the nearest open element of this name.
     fn close(&mut self, name: &[u8]) -> Result<(), AllocError>
+        requires { IsKnown self.old }
         ensures is { OnOk result (state_of self.new ≡ with_closed (state_of self.old) (closed name.now (state_of self.old).open_elements)) }
         ensures total { self.new.total ≡ self.old.total }
         ensures nodes { vec_len self.new.nodes ≤ vec_len self.old.nodes + 1 }
+        ensures known { OnOk result (IsKnown self.new) }
     {
+        if !self.standing.has(name) {
+            return Ok(());
+        }
         let Some(at) = nearest(&self.elements, name) else {
             return Ok(());
         };
         self.settle()?;
+        forget(&mut self.standing, &self.elements, at);
         self.elements.truncate(at);
         Ok(())
     }
@@ -250,6 +275,7 @@ impl Builder {
         ensures words { OnOk result (self.new.words.items ≡ self.old.words.items ++ tag.now.text) }
         ensures nodes { self.new.nodes ≡ self.old.nodes }
         ensures elements { self.new.elements ≡ self.old.elements }
+        ensures standing { self.new.standing ≡ self.old.standing }
         ensures total { self.new.total ≡ self.old.total }
     {
         let kept = firsts(self.alloc, tag.attributes.as_slice())?;
@@ -263,16 +289,19 @@ impl Builder {
     // Adds the element of a start tag, behind which no text stands yet.
     fn add(&mut self, tag: Tag) -> Result<(), AllocError>
         requires words { self.old.words.items ≡ [] }
+        requires known { IsKnown self.old }
         requires room { vec_len self.old.nodes < 2 ^ 32 }
         ensures is { OnOk result (state_of self.new ≡ with_element self.old.total (state_of self.old) tag) }
         ensures total { self.new.total ≡ self.old.total }
         ensures nodes { vec_len self.new.nodes ≤ vec_len self.old.nodes + 1 }
+        ensures known { OnOk result (IsKnown self.new) }
     {
         let node = self.nodes.len() as u32;
         let element = self.describe(node, &tag)?;
         self.nodes.push(element)?;
         let Tag { name, .. } = tag;
         if !is_void(name.as_slice()) {
+            self.standing.push(name.as_slice())?;
             self.elements.push(Open { node, name })?;
         }
         Ok(())
@@ -280,10 +309,12 @@ impl Builder {
 
     /// Adds one more piece.
     pub(crate) fn take(&mut self, piece: Piece) -> Result<(), AllocError>
-        requires { vec_len self.old.nodes + 1 < 2 ^ 32 }
+        requires known { IsKnown self.old }
+        requires room { vec_len self.old.nodes + 1 < 2 ^ 32 }
         ensures is { OnOk result (state_of self.new ≡ step self.old.total (state_of self.old) piece) }
         ensures total { self.new.total ≡ self.old.total }
         ensures nodes { vec_len self.new.nodes ≤ vec_len self.old.nodes + 2 }
+        ensures known { OnOk result (IsKnown self.new) }
     {
         match piece {
             Piece::Dropped => Ok(()),

@@ -8,6 +8,7 @@ pub loop-rest-preserved : goal.loop-rest-preserved
 loop-rest-preserved c = record {
   on = goes_on c.args.total c.loop-rest.builder.total c.args.text.now c.loop-rest.rest.now c.in_ok-piece.behind.now c.in_ok-piece.piece (state_of c.loop-rest.builder) (state_of c.take.new.self)
       c.loop-rest.invariant.on (not_empty c.loop-rest.rest.now c.loop-rest-test.ensures) c.in_ok-piece.ensures.is c.loop-rest.invariant.total c.in_ok-take.ensures.is;
+  known = c.in_ok-take.ensures.known;
   total = c.in_ok-take.ensures.total ∙ c.loop-rest.invariant.total;
   nodes = omega (arith, c.in_ok-take.ensures.nodes, c.in_ok-piece.ensures.shorter, c.loop-rest.invariant.nodes);
 }
