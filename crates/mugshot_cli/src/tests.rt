@@ -18,6 +18,9 @@ const HAND_MADE_LIST: &[u8] =
 
 const HEAD_LIST: &[u8] = b"head http://a.test/ 10000000 0\nrecords 1 inputs 0\n";
 
+const EXCHANGED_LIST: &[u8] =
+    b"head http://a.test/ 10000000 69\nload 50\nrand 7\nnow 60\nrand 0\nrand 0\nrecords 6 inputs 5\n";
+
 const EMPTY_LIST: &[u8] = b"records 0 inputs 0\n";
 
 // The same head, but for a page that is no text.
@@ -276,6 +279,86 @@ fn stands(rt: &impl Abort, alloc: Global, row: &Row) -> Result<(), Fail> {
 fn captures_and_replays_the_rows(rt: HostRuntime) -> Result<(), Fail> {
     for row in &ROWS {
         stands(&rt, rt.alloc(), row)?;
+    }
+    Ok(())
+}
+
+// The clock reading and the random word of a session are exchanged.
+#[test]
+fn exchanged_items_diverge(rt: HostRuntime) -> Result<(), Fail> {
+    let alloc = rt.alloc();
+    let mut whole = MemDisk::new(alloc);
+    let lines = b"load 50\nnow 60\nnow 61\nrand 7\n";
+    capture(
+        alloc,
+        READS,
+        lines,
+        "10000000",
+        &mut whole,
+        MemSink::new(alloc),
+    )?;
+    let (front, rest) = whole.as_slice().split_at(127);
+    let (now, rest) = rest.split_at(9);
+    let (rand, back) = rest.split_at(5);
+    let mut bytes = front.to_vec(alloc)?;
+    for part in [rand, now, back] {
+        bytes.extend_from_slice(part)?;
+    }
+    let mut disk = MemDisk::holding(alloc, &bytes)?;
+    let listed = read(alloc, "list", &mut disk, MemSink::new(alloc))?;
+    says(&rt, &listed, 0, EXCHANGED_LIST, b"");
+    let replayed = read(alloc, "replay", &mut disk, MemSink::new(alloc))?;
+    let line = b"mugshot: diverged at record 2: wanted now, found rand\n";
+    says(&rt, &replayed, 11, b"turn 1 load 50\n", line);
+    Ok(())
+}
+
+// What a stop may leave of the empty page's session after each disk call, where every open byte is ff.
+#[test]
+fn lists_what_a_stop_leaves(rt: HostRuntime) -> Result<(), Fail> {
+    let alloc = rt.alloc();
+    let mut whole = MemDisk::new(alloc);
+    capture(alloc, b"", b"", "10000000", &mut whole, MemSink::new(alloc))?;
+    let frame = &whole.as_slice()[9..];
+    let open = vec![in alloc; 0xff; frame.len()]?;
+    let rows: [(&[u8], &[u8], u8, &[u8]); 6] = [
+        (b"\xff\xff\xff\xff\xff\xff\xff\xff\xff", b"", 8, b""),
+        (b"MUGSHOT1\x00", b"", 0, EMPTY_LIST),
+        (b"MUGSHOT1\x00", &open, 0, EMPTY_LIST),
+        (b"MUGSHOT1\x00", frame, 0, EMPTY_LIST),
+        (b"MUGSHOT1\xff", frame, 0, EMPTY_LIST),
+        (b"MUGSHOT1\x01", frame, 0, HEAD_LIST),
+    ];
+    for (header, frames, code, out) in rows {
+        let mut bytes = header.to_vec(alloc)?;
+        bytes.extend_from_slice(frames)?;
+        let mut disk = MemDisk::holding(alloc, &bytes)?;
+        let answer = read(alloc, "list", &mut disk, MemSink::new(alloc))?;
+        let err: &[u8] = if code == 8 {
+            b"mugshot: not a session\n"
+        } else {
+            b""
+        };
+        says(&rt, &answer, code, out, err);
+    }
+    Ok(())
+}
+
+// A page of 4 MiB is looked at, and one byte more is too large.
+#[test]
+fn refuses_pages_above_4_mib(rt: HostRuntime) -> Result<(), Fail> {
+    let alloc = rt.alloc();
+    let page = vec![in alloc; b'x'; 4_194_305]?;
+    let rows: [(usize, u8, &[u8]); 2] = [
+        (4_194_304, 40, b"mugshot: not built yet\n"),
+        (4_194_305, 3, b"mugshot: bad page: too large\n"),
+    ];
+    for (len, code, err) in rows {
+        let mut disk = MemDisk::new(alloc);
+        let out = MemSink::new(alloc);
+        let answer = capture(alloc, &page[..len], b"", "7", &mut disk, out)?;
+        says(&rt, &answer, code, b"", err);
+        assert_eq!(rt; disk.moment(), 0);
     }
     Ok(())
 }
