@@ -297,12 +297,11 @@ fn exchanged_items_diverge(rt: HostRuntime) -> Result<(), Fail> {
         &mut whole,
         MemSink::new(alloc),
     )?;
-    let (front, rest) = whole.as_slice().split_at(127);
-    let (now, rest) = rest.split_at(9);
-    let (rand, back) = rest.split_at(5);
-    let mut bytes = front.to_vec(alloc)?;
-    for part in [rand, now, back] {
-        bytes.extend_from_slice(part)?;
+    let mut bytes = Vec::new(alloc);
+    for (from, count) in [(0, 127), (136, 5), (127, 9), (141, 11)] {
+        for byte in whole.as_slice().iter().skip(from).take(count) {
+            bytes.push(*byte)?;
+        }
     }
     let mut disk = MemDisk::holding(alloc, &bytes)?;
     let listed = read(alloc, "list", &mut disk, MemSink::new(alloc))?;
@@ -319,15 +318,19 @@ fn lists_what_a_stop_leaves(rt: HostRuntime) -> Result<(), Fail> {
     let alloc = rt.alloc();
     let mut whole = MemDisk::new(alloc);
     capture(alloc, b"", b"", "10000000", &mut whole, MemSink::new(alloc))?;
-    let frame = &whole.as_slice()[9..];
-    let open = vec![in alloc; 0xff; frame.len()]?;
+    let mut frame = Vec::new(alloc);
+    let mut open = Vec::new(alloc);
+    for byte in whole.as_slice().iter().skip(9) {
+        frame.push(*byte)?;
+        open.push(0xff)?;
+    }
     let rows: [(&[u8], &[u8], u8, &[u8]); 6] = [
         (b"\xff\xff\xff\xff\xff\xff\xff\xff\xff", b"", 8, b""),
         (b"MUGSHOT1\x00", b"", 0, EMPTY_LIST),
         (b"MUGSHOT1\x00", &open, 0, EMPTY_LIST),
-        (b"MUGSHOT1\x00", frame, 0, EMPTY_LIST),
-        (b"MUGSHOT1\xff", frame, 0, EMPTY_LIST),
-        (b"MUGSHOT1\x01", frame, 0, HEAD_LIST),
+        (b"MUGSHOT1\x00", &frame, 0, EMPTY_LIST),
+        (b"MUGSHOT1\xff", &frame, 0, EMPTY_LIST),
+        (b"MUGSHOT1\x01", &frame, 0, HEAD_LIST),
     ];
     for (header, frames, code, out) in rows {
         let mut bytes = header.to_vec(alloc)?;
@@ -348,15 +351,15 @@ fn lists_what_a_stop_leaves(rt: HostRuntime) -> Result<(), Fail> {
 #[test]
 fn refuses_pages_above_4_mib(rt: HostRuntime) -> Result<(), Fail> {
     let alloc = rt.alloc();
-    let page = vec![in alloc; b'x'; 4_194_305]?;
     let rows: [(usize, u8, &[u8]); 2] = [
         (4_194_304, 40, b"mugshot: not built yet\n"),
         (4_194_305, 3, b"mugshot: bad page: too large\n"),
     ];
     for (len, code, err) in rows {
+        let page = vec![in alloc; b'x'; len]?;
         let mut disk = MemDisk::new(alloc);
         let out = MemSink::new(alloc);
-        let answer = capture(alloc, &page[..len], b"", "7", &mut disk, out)?;
+        let answer = capture(alloc, &page, b"", "7", &mut disk, out)?;
         says(&rt, &answer, code, b"", err);
         assert_eq!(rt; disk.moment(), 0);
     }
