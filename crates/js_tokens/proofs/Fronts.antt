@@ -129,7 +129,7 @@ run_begins (u ∷ us) h = ap (begins is_start) (take_while-cons is_part u us ∙
 pub run_name : (us : List ℕ) → begins is_start us ≡ true → is_name (take (length (take_while is_part us)) us) ≡ true
 run_name us h = ap is_name (run_take is_part us) ∙ and_both _ _ (run_begins us h) (run_all is_part us)
 
-quote_same : (us : List ℕ) (q r : ℕ) → begins (λ u. u == q) us ≡ true → begins (λ u. u == r) us ≡ true → q ≡ r
+pub quote_same : (us : List ℕ) (q r : ℕ) → begins (λ u. u == q) us ≡ true → begins (λ u. u == r) us ≡ true → q ≡ r
 quote_same [] q r h g = absurd (cc h)
 quote_same (u ∷ us) q r h g = sym (eqb-true u q h) ∙ eqb-true u r g
 
@@ -138,7 +138,7 @@ pub text_length : (us : List ℕ) (q : ℕ) → begins (λ u. u == q) us ≡ tru
 text_length us q b a m v i k w n x = by (text_only us (quote_front q us a b) k w n x)
   where
     by : (t : List ℕ) × Stands (Text t) w us n → n ≡ m + 2
-    by (t, (h, (q', m', a', b', i', d, e))) = omega (arith, d, inside_one i (subst (λ z. Inside z (drop 1 us) m' t) (quote_same us q' q b' b) i'))
+    by (t, (h, (q', m', a', b', i', d, e))) = omega (arith, d, (inside_one i (subst (λ z. Inside z (drop 1 us) m' t) (quote_same us q' q b' b) i')).0)
 
 pub text_none : (us : List ℕ) (q : ℕ) → begins (λ u. u == q) us ≡ true → is_quote q ≡ true → ((m : ℕ) (v : List ℕ) → Inside q (drop 1 us) m v → ⊥) → NoneStands us
 text_none us q b a f k w n x = by (text_only us (quote_front q us a b) k w n x)

@@ -6,3 +6,4 @@ pub mod Opens
 pub mod Table
 pub mod Fronts
 pub mod Marks
+pub mod Ones

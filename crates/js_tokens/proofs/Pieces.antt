@@ -38,11 +38,11 @@ inside_more q us start out now at p on h e n v g =
     (w, subst (λ z. Inside q us z w) (omega arith) i, same ∙ sym (append_assoc out (option_to_list p.value) v) ∙ ap (λ z. z ++ v) (sym e))
 
 -- a string has one length and one value
-pub inside_one : {q : ℕ} {us : List ℕ} {m n : ℕ} {v w : List ℕ} → Inside q us m v → Inside q us n w → m ≡ n
-inside_one (closes a) (closes b) = refl
+pub inside_one : {q : ℕ} {us : List ℕ} {m n : ℕ} {v w : List ℕ} → Inside q us m v → Inside q us n w → (m ≡ n) × (v ≡ w)
+inside_one (closes a) (closes b) = (refl, refl)
 inside_one {q = q} {us = us} (closes a) (more e r) = absurd (some_none (piece q us) _ e (quote_none q us a))
 inside_one {q = q} {us = us} (more e r) (closes b) = absurd (some_none (piece q us) _ e (quote_none q us b))
 inside_one {q = q} {us = us} (more {p = p} e r) (more {p = p'} {n = n'} {value = v'} e' r') =
     let is : p' ≡ p = some_one p' p (sym e' ∙ e) in
     let rest = inside_one r (subst (λ z. Inside q (drop z.len us) n' v') is r') in
-    omega (arith, rest, ap (λ z. z.len) is)
+    (omega (arith, rest.0, ap (λ z. z.len) is), ap (λ z. option_to_list p.value ++ z) rest.1 ∙ ap (λ z. option_to_list z.value ++ v') (sym is))

@@ -1,11 +1,11 @@
 -- The table of words: what each row says of the others.
-use Rattle.std.proofs.Common.{◌≡◌, ◌≢◌, ℕ, Bool, true, false, ◌&&◌, List, refl, sym, ◌∙◌, ap}
+use Rattle.std.proofs.Common.{◌≡◌, ◌≢◌, ℕ, ◌<◌, Bool, true, false, ◌&&◌, List, [], ◌∷◌, ◌++◌, length, refl, sym, ◌∙◌, ap, subst, arith, if◌then◌else◌}
 use Rattle.std.specs.Prelude.{not}
 use Rattle.std.specs.List.{list_all}
 use Rattle.js_tokens.specs.Units.{is_start, is_digit, is_quote, begins}
 use Rattle.js_tokens.specs.Words.{spelling, is_word}
 use Rattle.js_tokens.specs.Tokens.{is_name}
-use Rattle.js_tokens.specs.declared.word.TheConstants.{RESERVED}
+use Rattle.js_tokens.specs.declared.word.TheConstants.{RESERVED, PUNCTUATORS}
 use Rattle.js_tokens.specs.declared.word.Word.{Word}
 use Rattle.js_tokens.specs.declared.word.Word.TheVariants.{Name, Number, Text, OpenBrace, CloseBrace, OpenParen, CloseParen, OpenBracket, CloseBracket, Dot, Semicolon, Comma, Less, Greater, LessEqual, GreaterEqual, Equal, NotEqual, Identical, NotIdentical, Plus, Minus, Star, Percent, PlusPlus, MinusMinus, ShiftLeft, ShiftRight, ShiftZero, BitAnd, BitOr, BitXor, Not, BitNot, And, Or, Question, Colon, Assign, PlusAssign, MinusAssign, StarAssign, PercentAssign, ShiftLeftAssign, ShiftRightAssign, ShiftZeroAssign, BitAndAssign, BitOrAssign, BitXorAssign, Slash, SlashAssign, Break, Case, Catch, Continue, Debugger, Default, Delete, Do, Else, Finally, For, Function, If, In, InstanceOf, New, Return, Switch, This, Throw, Try, TypeOf, Var, Void, While, With, Class, Const, Enum, Export, Extends, Import, Super, Null, True, False}
 use Rattle.js_tokens.proofs.Runs.{and_both}
@@ -374,3 +374,20 @@ quote_row Super = refl
 quote_row Null = refl
 quote_row True = refl
 quote_row False = refl
+
+-- the first word with this text
+abbrev word_of : List ℕ → List Word → Word
+word_of us [] = Name
+word_of us (w ∷ ws) = if is_word us (spelling w) then w else word_of us ws
+
+-- a word with a text is the first with it
+word_row : (v : Word) → 0 < length (spelling v) → word_of (spelling v) (RESERVED ++ PUNCTUATORS) ≡ v
+word_row Name h = absurd (omega (arith, h))
+word_row Number h = absurd (omega (arith, h))
+word_row Text h = absurd (omega (arith, h))
+word_row v h = refl
+
+-- a text is of one word
+pub spelling_one : (us : List ℕ) (v w : Word) → 0 < length us → us ≡ spelling v → us ≡ spelling w → v ≡ w
+spelling_one us v w h e f =
+    sym (word_row v (subst (λ z. 0 < length z) e h)) ∙ ap (λ z. word_of z (RESERVED ++ PUNCTUATORS)) (sym e ∙ f) ∙ word_row w (subst (λ z. 0 < length z) f h)

@@ -5,3 +5,4 @@ pub mod Strings
 pub mod Gaps
 pub mod Tokens
 pub mod Faults
+pub mod Laws

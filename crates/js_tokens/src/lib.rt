@@ -2,6 +2,7 @@
 #![tactic(auto)]
 
 mod gaps;
+mod laws;
 mod lexer;
 mod numbers;
 mod reading;
@@ -10,6 +11,7 @@ mod token;
 mod units;
 mod word;
 
+pub use laws::tokens_are_one;
 pub use reading::tokens;
 pub use token::{LexFault, Token, TokenKind, Tokens};
 pub use word::Word;
