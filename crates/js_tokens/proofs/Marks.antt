@@ -10,7 +10,7 @@ use Rattle.js_tokens.specs.Words.{spelling, is_word}
 use Rattle.js_tokens.specs.Tokens.{is_name, Stands, NoneStands}
 use Rattle.js_tokens.specs.declared.word.TheConstants.{PUNCTUATORS}
 use Rattle.js_tokens.specs.declared.word.Word.{Word}
-use Rattle.js_tokens.specs.declared.word.Word.TheVariants.{Name, Number, Text, OpenBrace, CloseBrace, OpenParen, CloseParen, OpenBracket, CloseBracket, Dot, Semicolon, Comma, Less, Greater, LessEqual, GreaterEqual, Equal, NotEqual, Identical, NotIdentical, Plus, Minus, Star, Percent, PlusPlus, MinusMinus, ShiftLeft, ShiftRight, ShiftZero, BitAnd, BitOr, BitXor, Not, BitNot, And, Or, Question, Colon, Assign, PlusAssign, MinusAssign, StarAssign, PercentAssign, ShiftLeftAssign, ShiftRightAssign, ShiftZeroAssign, BitAndAssign, BitOrAssign, BitXorAssign, Slash, SlashAssign, Break, Case, Catch, Continue, Debugger, Default, Delete, Do, Else, Finally, For, Function, If, In, InstanceOf, New, Return, Switch, This, Throw, Try, TypeOf, Var, Void, While, With, Class, Const, Enum, Export, Extends, Import, Super, Null, True, False}
+use Rattle.js_tokens.specs.declared.word.Word.TheVariants.{Name}
 use Rattle.js_tokens.specs.declared.token.TokenKind.{TokenKind}
 use Rattle.js_tokens.specs.declared.token.TokenKind.TheVariants as kind
 use Rattle.js_tokens.proofs.Runs.{and_left, and_right, and_both}
@@ -20,92 +20,7 @@ use Rattle.js_tokens.proofs.Fronts.{clash, front, stands_pos, begins_take}
 -- a word that is no name and has a text is among the punctuators
 mark_row : (v : Word) → list_all (λ w. not (is_word (spelling v) (spelling w))) PUNCTUATORS ≡ (is_name (spelling v) || (length (spelling v) == 0))
 mark_row Name = refl
-mark_row Number = refl
-mark_row Text = refl
-mark_row OpenBrace = refl
-mark_row CloseBrace = refl
-mark_row OpenParen = refl
-mark_row CloseParen = refl
-mark_row OpenBracket = refl
-mark_row CloseBracket = refl
-mark_row Dot = refl
-mark_row Semicolon = refl
-mark_row Comma = refl
-mark_row Less = refl
-mark_row Greater = refl
-mark_row LessEqual = refl
-mark_row GreaterEqual = refl
-mark_row Equal = refl
-mark_row NotEqual = refl
-mark_row Identical = refl
-mark_row NotIdentical = refl
-mark_row Plus = refl
-mark_row Minus = refl
-mark_row Star = refl
-mark_row Percent = refl
-mark_row PlusPlus = refl
-mark_row MinusMinus = refl
-mark_row ShiftLeft = refl
-mark_row ShiftRight = refl
-mark_row ShiftZero = refl
-mark_row BitAnd = refl
-mark_row BitOr = refl
-mark_row BitXor = refl
-mark_row Not = refl
-mark_row BitNot = refl
-mark_row And = refl
-mark_row Or = refl
-mark_row Question = refl
-mark_row Colon = refl
-mark_row Assign = refl
-mark_row PlusAssign = refl
-mark_row MinusAssign = refl
-mark_row StarAssign = refl
-mark_row PercentAssign = refl
-mark_row ShiftLeftAssign = refl
-mark_row ShiftRightAssign = refl
-mark_row ShiftZeroAssign = refl
-mark_row BitAndAssign = refl
-mark_row BitOrAssign = refl
-mark_row BitXorAssign = refl
-mark_row Slash = refl
-mark_row SlashAssign = refl
-mark_row Break = refl
-mark_row Case = refl
-mark_row Catch = refl
-mark_row Continue = refl
-mark_row Debugger = refl
-mark_row Default = refl
-mark_row Delete = refl
-mark_row Do = refl
-mark_row Else = refl
-mark_row Finally = refl
-mark_row For = refl
-mark_row Function = refl
-mark_row If = refl
-mark_row In = refl
-mark_row InstanceOf = refl
-mark_row New = refl
-mark_row Return = refl
-mark_row Switch = refl
-mark_row This = refl
-mark_row Throw = refl
-mark_row Try = refl
-mark_row TypeOf = refl
-mark_row Var = refl
-mark_row Void = refl
-mark_row While = refl
-mark_row With = refl
-mark_row Class = refl
-mark_row Const = refl
-mark_row Enum = refl
-mark_row Export = refl
-mark_row Extends = refl
-mark_row Import = refl
-mark_row Super = refl
-mark_row Null = refl
-mark_row True = refl
-mark_row False = refl
+mark_row v = refl
 
 marks : (v : Word) → is_name (spelling v) ≡ false → 0 < length (spelling v) → list_all (λ w. not (is_word (spelling v) (spelling w))) PUNCTUATORS ≡ true → ⊥
 marks v a b h = by (is_name (spelling v)) a (sym (mark_row v) ∙ h)
