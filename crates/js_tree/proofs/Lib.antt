@@ -1,0 +1,6 @@
+pub mod Arenas
+pub mod Items
+pub mod Walks
+pub mod Joins
+pub mod Functions
+pub mod Held

@@ -1,0 +1,101 @@
+-- An arena as the lists of its nodes and of the bodies of its functions. A node's number is its place among the nodes, and a body's
+-- its place among the bodies.
+use Rattle.std.specs.Prelude.{◌≡◌, ℕ, ◌<◌, ◌^◌, List, [], ◌∷◌, ◌++◌, length, Option, Some, None, slice_get, slice_set}
+use Rattle.std.specs.Option.{option_map}
+use Rattle.js_tree.specs.declared.node.NodeId.{NodeId}
+use Rattle.js_tree.specs.declared.node.BodyId.{BodyId}
+use Rattle.js_tree.specs.declared.node.Node.{Node}
+use Rattle.js_tree.specs.declared.node.Node.TheVariants as node
+use Rattle.js_tree.specs.declared.script.Kept.{Kept}
+use Rattle.js_tree.specs.declared.script.Pending.{Pending}
+use Rattle.js_tree.specs.declared.script.Braces.{Braces}
+use Rattle.js_tree.specs.declared.script.FunctionHead.{FunctionHead}
+use Rattle.js_tree.specs.declared.script.FunctionHead.TheVariants as head
+use Rattle.js_tree.specs.Trees.{Tree, Part, At, Body, Cons, parts, Holds}
+
+-- the nodes, the bodies that have to be read, and of each body the node that it was read as, once it is
+pub record Arena : Type 0 where
+  pub kept : List Kept
+  pub pending : List Pending
+  pub filled : List (Option NodeId)
+
+-- a part names no node and no body but the first ones, so many of each
+abbrev pub IsWithin : ℕ → ℕ → Part → Type 0
+IsWithin count bodies (At i) = i < count
+IsWithin count bodies (Body k) = k < bodies
+IsWithin count bodies (Cons p q) = IsWithin count bodies p × IsWithin count bodies q
+IsWithin count bodies _ = Unit {0}
+
+-- a node names only nodes before it, and bodies that are there; what is named elsewhere is there
+pub record IsOrdered (arena : Arena) : Type 0 where
+  pub few_nodes : length arena.kept < 2 ^ 32
+  pub few_bodies : length arena.pending < 2 ^ 32
+  pub as_many : length arena.filled ≡ length arena.pending
+  pub nodes : (i : ℕ) (k : Kept) → slice_get arena.kept i ≡ Some k → IsWithin i (length arena.pending) (parts k.node)
+  pub functions : (i : ℕ) (p : Pending) → slice_get arena.pending i ≡ Some p → p.node.number < length arena.kept
+  pub bodies : (i : ℕ) (id : NodeId) → slice_get arena.filled i ≡ Some (Some id) → id.number < length arena.kept
+
+abbrev pub empty : Arena
+empty = record { kept = []; pending = []; filled = [] }
+
+-- with one more node
+abbrev pub with_node : Kept → Arena → Arena
+with_node k arena = record arena { kept = arena.kept ++ k ∷ [] }
+
+abbrev pub function_of : FunctionHead → BodyId → Node
+function_of (head.Expression name parameters) body = node.Function name parameters body
+function_of (head.Declaration name parameters) body = node.Declaration name parameters body
+
+abbrev pub pending_of : ℕ → Braces → Pending
+pending_of number braces = record { node = record { number = number }; from = braces.from; to = braces.to; level = braces.level }
+
+-- with one more function, whose body is one more that has to be read
+abbrev pub with_function : FunctionHead → ℕ → ℕ → Braces → Arena → Arena
+with_function head from to braces arena = record {
+  kept = arena.kept ++ record { node = function_of head (record { number = length arena.pending }); from = from; to = to } ∷ [];
+  pending = arena.pending ++ pending_of (length arena.kept) braces ∷ [];
+  filled = arena.filled ++ None ∷ [];
+}
+
+-- with the node that a body was read as
+abbrev pub with_body : ℕ → NodeId → Arena → Arena
+with_body k body arena = record arena { filled = slice_set arena.filled k (Some body) }
+
+abbrev pub node_at : Arena → NodeId → Option Node
+node_at arena id = option_map (λ (k : Kept). k.node) (slice_get arena.kept id.number)
+
+abbrev pub span_at : Arena → NodeId → Option (ℕ × ℕ)
+span_at arena id = option_map (λ (k : Kept). (k.from, k.to)) (slice_get arena.kept id.number)
+
+-- the names that a program or a body carries
+abbrev pub names_of : Node → List (List ℕ)
+names_of (node.Program _ names) = names
+names_of (node.Handler _ names) = names
+names_of (node.Body _ names) = names
+names_of _ = []
+
+abbrev pub names_in : Option Node → List (List ℕ)
+names_in None = []
+names_in (Some n) = names_of n
+
+abbrev pub names_at : Arena → Option NodeId → List (List ℕ)
+names_at arena None = []
+names_at arena (Some id) = names_in (node_at arena id)
+
+abbrev pub names_of_body : Arena → Option (Option NodeId) → List (List ℕ)
+names_of_body arena None = []
+names_of_body arena (Some id) = names_at arena id
+
+-- of a function the names that its body carries, once it is read; of any other node those that it carries itself
+abbrev pub declared_by : Arena → Option Node → List (List ℕ)
+declared_by arena None = []
+declared_by arena (Some (node.Function _ _ body)) = names_of_body arena (slice_get arena.filled body.number)
+declared_by arena (Some (node.Declaration _ _ body)) = names_of_body arena (slice_get arena.filled body.number)
+declared_by arena (Some n) = names_of n
+
+abbrev pub declared : Arena → NodeId → List (List ℕ)
+declared arena id = declared_by arena (node_at arena id)
+
+-- every body is read, as a node that holds the tree that it is
+abbrev pub Filled : Arena → (ℕ → Tree) → Type 0
+Filled arena bodies = (k : ℕ) → k < length arena.pending → (id : NodeId) × (slice_get arena.filled k ≡ Some (Some id)) × Holds bodies arena.kept (At id.number) (bodies k)

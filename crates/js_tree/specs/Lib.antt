@@ -1,0 +1,5 @@
+pub mod Trees
+pub mod Names
+pub mod Arena
+pub mod Walk
+pub mod Seen

@@ -1,0 +1,66 @@
+-- What a walk over a tree finds in a node.
+use Rattle.std.specs.Prelude.{ℕ, Bool, true, false, List, [], ◌∷◌, ◌++◌, Option, Some, None, if◌then◌else◌}
+use Rattle.js_tree.specs.declared.node.Node.{Node}
+use Rattle.js_tree.specs.declared.node.Node.TheVariants as node
+use Rattle.js_tree.specs.declared.production.Production.{Production}
+use Rattle.js_tree.specs.declared.production.Production.TheVariants as production
+use Rattle.js_tree.specs.declared.walk.Item.{Item}
+use Rattle.js_tree.specs.declared.walk.Item.TheVariants as item
+use Rattle.js_tree.specs.declared.walk.Wanted.{Wanted}
+use Rattle.js_tree.specs.declared.walk.Wanted.TheVariants.{Vars, Variables}
+use Rattle.js_tree.specs.Trees.{Part, At, Word, Nil, Cons, parts, production_of}
+use Rattle.js_tree.specs.Names.{is_var, names_variables}
+use Rattle.js_tree.specs.Arena.{Arena, node_at}
+
+abbrev pub wants_variables : Wanted → Bool
+wants_variables Vars = false
+wants_variables Variables = true
+
+-- the texts of a `var` are wanted, or all names of variables
+abbrev pub wants : Wanted → Production → Bool
+wants wanted production.Name = wants_variables wanted
+wants wanted production.Var = true
+wants wanted production.Try = wants_variables wanted
+wants wanted _ = false
+
+-- the same, as names of scopes are defined by it
+abbrev pub test_of : Wanted → Production → Bool
+test_of Vars = is_var
+test_of Variables = names_variables
+
+-- the name that a node declares as a function
+abbrev pub function_name : Node → List (List ℕ)
+function_name (node.Declaration name _ _) = name ∷ []
+function_name _ = []
+
+-- the nodes of a part and, where they are wanted, its texts, from left to right
+abbrev pub items_in : Bool → Part → List Item
+items_in here (At i) = item.At (record { number = i }) ∷ []
+items_in here (Word t) = if here then item.Word t ∷ [] else []
+items_in here (Cons p q) = items_in here p ++ items_in here q
+items_in here _ = []
+
+-- those of a node; functions are not looked into
+abbrev pub inside : Wanted → Node → List Item
+inside wanted (node.Function _ _ _) = []
+inside wanted (node.Declaration _ _ _) = []
+inside wanted n = items_in (wants wanted (production_of n)) (parts n)
+
+abbrev pub inside_in : Wanted → Option Node → List Item
+inside_in wanted None = []
+inside_in wanted (Some n) = inside wanted n
+
+-- the items that take an item's place, and the text that it is
+abbrev pub opened : Wanted → Arena → Item → List Item
+opened wanted arena (item.At id) = inside_in wanted (node_at arena id)
+opened wanted arena (item.Word _) = []
+
+abbrev pub text_of : Item → List (List ℕ)
+text_of (item.At _) = []
+text_of (item.Word t) = t ∷ []
+
+-- a list of items as a part
+abbrev pub part_of : List Item → Part
+part_of [] = Nil
+part_of (item.At id ∷ rest) = Cons (At id.number) (part_of rest)
+part_of (item.Word t ∷ rest) = Cons (Word t) (part_of rest)
