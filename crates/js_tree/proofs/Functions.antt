@@ -1,8 +1,8 @@
 -- The functions that are declared among statements, one statement after another.
-use Rattle.std.proofs.Common.{◌≡◌, ℕ, zero, suc, ◌+◌, ◌<◌, ◌≤◌, if◌then◌else◌, List, [], ◌∷◌, ◌++◌, length, drop, get_or, Some, refl, sym, ap, subst, ◌∙◌, arith}
+use Rattle.std.proofs.Common.{◌≡◌, ℕ, zero, suc, ◌+◌, ◌<◌, ◌≤◌, if◌then◌else◌, List, [], ◌∷◌, ◌++◌, length, take, drop, get_or, Some, refl, sym, ap, subst, ◌∙◌, arith}
 use Rattle.std.specs.Option.{option_map}
 use Rattle.std.proofs.lemmas.Option.{same_Some}
-use Rattle.std.proofs.lemmas.List.{drop_more, drop_all}
+use Rattle.std.proofs.lemmas.List.{drop_more, drop_all, take_more}
 use Rattle.js_tree.specs.declared.node.NodeId.{NodeId}
 use Rattle.js_tree.specs.declared.node.Node.{Node}
 use Rattle.js_tree.specs.declared.node.Node.TheVariants as node
@@ -87,3 +87,12 @@ all_joined arena ids i old now l is b t h =
     let had = is.reads b t h in
     let none = no_functions b arena.kept had.0 (subst (λ ids. Holds b arena.kept (nodes ids) had.0) (drop_all i ids l) had.1) in
     ap (joined now) (sym none) ∙ had.2
+
+-- nodes that are there, and one more
+pushed_within : (count bodies : ℕ) (ids : List NodeId) (one : NodeId) → IsWithin count bodies (nodes ids) → one.number < count → IsWithin count bodies (nodes (ids ++ one ∷ []))
+pushed_within count bodies [] one h l = (l, tt)
+pushed_within count bodies (id ∷ ids) one h l = (h.0, pushed_within count bodies ids one h.1 l)
+
+pub within_more : (count bodies : ℕ) (ids : List NodeId) (i : ℕ) (d : NodeId) → i < length ids → IsWithin count bodies (nodes (take i ids)) → (get_or ids i d).number < count
+    → IsWithin count bodies (nodes (take (i + 1) ids))
+within_more count bodies ids i d l h one = subst (λ ids. IsWithin count bodies (nodes ids)) (sym (take_more ids i d l)) (pushed_within count bodies (take i ids) (get_or ids i d) h one)

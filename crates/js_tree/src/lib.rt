@@ -12,3 +12,6 @@ pub use laws::{a_tree_is_one, a_tree_is_there, added_nodes_keep_trees};
 pub use node::{BodyId, Case, Catch, Declarator, Entry, Node, NodeId};
 pub use production::{BinaryOperator, Production, UnaryOperator, UpdateOperator};
 pub use script::{Braces, FunctionHead, Kept, Pending, Script};
+
+#[cfg(test)]
+mod tests;

@@ -125,7 +125,8 @@ impl Script {
             return Err(NoMemory);
         }
         self.nodes.reserve(1)?;
-        self.nodes.push_reserved(Kept { node, from, to });
+        let kept = Kept { node, from, to };
+        self.nodes.push_reserved(kept);
         Ok(NodeId {
             number: number as u32,
         })
