@@ -18,6 +18,24 @@ const HAND_MADE_LIST: &[u8] =
 
 const HEAD_LIST: &[u8] = b"head http://a.test/ 10000000 0\nrecords 1 inputs 0\n";
 
+const EXCHANGED: &[u8] =
+    b"MUGSHOT1\x01\x00\x00\x00d\x00\x00\x00\x00\x0ehttp://a.test/\x00\x00\x00\x00\x00\x98\x96\x80\x00\x00\x00E<script>Date.now();Math.random();Math.random();Math.random()</script>\x01\x00\x00\x00!\x03\x00\x00\x00\x00\x00\x00\x002\x0a\x00\x00\x00\x07\x09\x00\x00\x00\x00\x00\x00\x00<\x0a\x00\x00\x00\x00\x0a\x00\x00\x00\x00\x00";
+
+// The empty page's session after its third write, where every open byte is ff.
+const TORN: &[u8] =
+    b"MUGSHOT1\x00\xff\xff\xff\xff\xff\xff\xff\xff\xff\xff\xff\xff\xff\xff\xff\xff\xff\xff\xff\xff\xff\xff\xff\xff\xff\xff\xff\xff\xff\xff\xff\xff\xff\xff\xff\xff";
+
+// After the sync behind it.
+const CLOSED: &[u8] =
+    b"MUGSHOT1\x00\x00\x00\x00\x1f\x00\x00\x00\x00\x0ehttp://a.test/\x00\x00\x00\x00\x00\x98\x96\x80\x00\x00\x00\x00\x00";
+
+// After the write of the gate, where it is ff, and where it is 1.
+const UNOPENED: &[u8] =
+    b"MUGSHOT1\xff\x00\x00\x00\x1f\x00\x00\x00\x00\x0ehttp://a.test/\x00\x00\x00\x00\x00\x98\x96\x80\x00\x00\x00\x00\x00";
+
+const OPENED: &[u8] =
+    b"MUGSHOT1\x01\x00\x00\x00\x1f\x00\x00\x00\x00\x0ehttp://a.test/\x00\x00\x00\x00\x00\x98\x96\x80\x00\x00\x00\x00\x00";
+
 const EXCHANGED_LIST: &[u8] =
     b"head http://a.test/ 10000000 69\nload 50\nrand 7\nnow 60\nrand 0\nrand 0\nrecords 6 inputs 5\n";
 
@@ -122,7 +140,7 @@ fn lists_sessions(rt: HostRuntime) -> Result<(), Fail> {
     unknown[58] = 0x0b;
     let mut short = HAND_MADE;
     short[13] = 0xff;
-    let rows: [(&[u8], u8, &[u8], &[u8]); 11] = [
+    let rows: [(&[u8], u8, &[u8], &[u8]); 15] = [
         (&HAND_MADE, 0, HAND_MADE_LIST, b""),
         (&HAND_MADE[..72], 0, HEAD_LIST, b""),
         (&later, 40, b"", b"mugshot: not built yet\n"),
@@ -139,6 +157,10 @@ fn lists_sessions(rt: HostRuntime) -> Result<(), Fail> {
         (b"MUGSHOT1\x00", 0, EMPTY_LIST, b""),
         (b"MUGSHOT1\x02\xff", 0, EMPTY_LIST, b""),
         (b"MUGSHOT1\x01\xff\xff\xff\xff", 0, EMPTY_LIST, b""),
+        (TORN, 0, EMPTY_LIST, b""),
+        (CLOSED, 0, EMPTY_LIST, b""),
+        (UNOPENED, 0, EMPTY_LIST, b""),
+        (OPENED, 0, HEAD_LIST, b""),
     ];
     for (bytes, code, out, err) in rows {
         let mut disk = MemDisk::holding(alloc, bytes)?;
@@ -283,27 +305,11 @@ fn captures_and_replays_the_rows(rt: HostRuntime) -> Result<(), Fail> {
     Ok(())
 }
 
-// The clock reading and the random word of a session are exchanged.
+// A session of four inputs behind its load, with the clock reading and the random word exchanged.
 #[test]
 fn exchanged_items_diverge(rt: HostRuntime) -> Result<(), Fail> {
     let alloc = rt.alloc();
-    let mut whole = MemDisk::new(alloc);
-    let lines = b"load 50\nnow 60\nnow 61\nrand 7\n";
-    capture(
-        alloc,
-        READS,
-        lines,
-        "10000000",
-        &mut whole,
-        MemSink::new(alloc),
-    )?;
-    let mut bytes = Vec::new(alloc);
-    for (from, count) in [(0, 127), (136, 5), (127, 9), (141, 11)] {
-        for byte in whole.as_slice().iter().skip(from).take(count) {
-            bytes.push(*byte)?;
-        }
-    }
-    let mut disk = MemDisk::holding(alloc, &bytes)?;
+    let mut disk = MemDisk::holding(alloc, EXCHANGED)?;
     let listed = read(alloc, "list", &mut disk, MemSink::new(alloc))?;
     says(&rt, &listed, 0, EXCHANGED_LIST, b"");
     let replayed = read(alloc, "replay", &mut disk, MemSink::new(alloc))?;
@@ -312,57 +318,22 @@ fn exchanged_items_diverge(rt: HostRuntime) -> Result<(), Fail> {
     Ok(())
 }
 
-// What a stop may leave of the empty page's session after each disk call, where every open byte is ff.
-#[test]
-fn lists_what_a_stop_leaves(rt: HostRuntime) -> Result<(), Fail> {
-    let alloc = rt.alloc();
-    let mut whole = MemDisk::new(alloc);
-    capture(alloc, b"", b"", "10000000", &mut whole, MemSink::new(alloc))?;
-    let mut frame = Vec::new(alloc);
-    let mut open = Vec::new(alloc);
-    for byte in whole.as_slice().iter().skip(9) {
-        frame.push(*byte)?;
-        open.push(0xff)?;
-    }
-    let rows: [(&[u8], &[u8], u8, &[u8]); 6] = [
-        (b"\xff\xff\xff\xff\xff\xff\xff\xff\xff", b"", 8, b""),
-        (b"MUGSHOT1\x00", b"", 0, EMPTY_LIST),
-        (b"MUGSHOT1\x00", &open, 0, EMPTY_LIST),
-        (b"MUGSHOT1\x00", &frame, 0, EMPTY_LIST),
-        (b"MUGSHOT1\xff", &frame, 0, EMPTY_LIST),
-        (b"MUGSHOT1\x01", &frame, 0, HEAD_LIST),
-    ];
-    for (header, frames, code, out) in rows {
-        let mut bytes = header.to_vec(alloc)?;
-        bytes.extend_from_slice(frames)?;
-        let mut disk = MemDisk::holding(alloc, &bytes)?;
-        let answer = read(alloc, "list", &mut disk, MemSink::new(alloc))?;
-        let err: &[u8] = if code == 8 {
-            b"mugshot: not a session\n"
-        } else {
-            b""
-        };
-        says(&rt, &answer, code, out, err);
-    }
-    Ok(())
-}
-
 // A page of 4 MiB is looked at, and one byte more is too large.
 #[test]
 fn refuses_pages_above_4_mib(rt: HostRuntime) -> Result<(), Fail> {
     let alloc = rt.alloc();
-    let rows: [(usize, u8, &[u8]); 2] = [
-        (4_194_304, 40, b"mugshot: not built yet\n"),
-        (4_194_305, 3, b"mugshot: bad page: too large\n"),
-    ];
-    for (len, code, err) in rows {
-        let page = vec![in alloc; b'x'; len]?;
-        let mut disk = MemDisk::new(alloc);
-        let out = MemSink::new(alloc);
-        let answer = capture(alloc, &page, b"", "7", &mut disk, out)?;
-        says(&rt, &answer, code, b"", err);
-        assert_eq!(rt; disk.moment(), 0);
+    let mut page = b"x".to_vec(alloc)?;
+    for _ in 0..22 {
+        let half = page.as_slice().to_vec(alloc)?;
+        page.extend_from_slice(&half)?;
     }
+    let mut disk = MemDisk::new(alloc);
+    let looked_at = capture(alloc, &page, b"", "7", &mut disk, MemSink::new(alloc))?;
+    says(&rt, &looked_at, 40, b"", b"mugshot: not built yet\n");
+    page.push(b'x')?;
+    let refused = capture(alloc, &page, b"", "7", &mut disk, MemSink::new(alloc))?;
+    says(&rt, &refused, 3, b"", b"mugshot: bad page: too large\n");
+    assert_eq!(rt; disk.moment(), 0);
     Ok(())
 }
 
