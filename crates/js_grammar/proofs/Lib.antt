@@ -1,0 +1,9 @@
+pub mod Derived
+pub mod One
+pub mod Agree
+pub mod Guarded
+pub mod Meta
+pub mod Verdicts
+pub mod PrecedenceFit
+pub mod PrecedenceParting
+pub mod PrecedenceLaws

@@ -1,0 +1,9 @@
+pub mod Sights
+pub mod Parts
+pub mod Grammar
+pub mod Derivations
+pub mod Answers
+pub mod Laws
+pub mod Ends
+pub mod Programs
+pub mod Precedence

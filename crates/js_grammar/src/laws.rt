@@ -1,0 +1,28 @@
+// What holds of the answer of a text, as contracts of functions that do nothing.
+ghost use Rattle.js_grammar.specs.Laws.{OneAnswer, FirstRefused};
+ghost use Rattle.js_grammar.specs.Ends.{EndIsAnswer};
+ghost use Rattle.js_grammar.specs.Programs.{OneVerdict};
+
+use js_tokens::tokens_are_one;
+
+/// The answer of a text is one.
+pub fn an_answer_is_one()
+    ensures { OneAnswer }
+{}
+
+/// A refusal stands at the first token that can't be read, whatever semicolons are inserted.
+pub fn a_refusal_is_the_first()
+    ensures { FirstRefused }
+{}
+
+/// What a text ends in, step by step, is its answer.
+pub fn an_end_is_the_answer()
+    ensures { EndIsAnswer }
+{}
+
+/// A text of units has one program or one place where it is refused, and never both.
+pub fn a_verdict_is_one()
+    ensures { OneVerdict }
+{
+    tokens_are_one();
+}
