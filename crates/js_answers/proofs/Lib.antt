@@ -1,0 +1,4 @@
+pub mod Always
+pub mod Keeping
+pub mod Making
+pub mod Going

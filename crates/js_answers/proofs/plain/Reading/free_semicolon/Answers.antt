@@ -1,0 +1,8 @@
+use Rattle.js_answers.proofs.Going.{free_on, free_inserted}
+use Rattle.js_answers.proofs.plain.Reading.free_semicolon.Goals as goal
+
+pub returns-then-not-is_seen-clause-goes : goal.returns-then-not-is_seen-clause-goes
+returns-then-not-is_seen-clause-goes c start vs h = free_inserted c.requires start vs c.if-not-is_seen.ensures h
+
+pub returns-clause-goes : goal.returns-clause-goes
+returns-clause-goes c start vs h = free_on c.requires start vs c.if-not-is_seen.ensures c.if-not-may_stand.ensures c.advance.new.self c.in_ok-advance.ensures h

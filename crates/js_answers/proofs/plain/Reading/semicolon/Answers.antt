@@ -1,0 +1,12 @@
+use Rattle.std.proofs.Common.{sym, ◌∙◌}
+use Rattle.js_answers.proofs.Going.{semicolon_on, semicolon_inserted, semicolon_missing}
+use Rattle.js_answers.proofs.plain.Reading.semicolon.Goals as goal
+
+pub returns-then-is_seen-clause-goes : goal.returns-then-is_seen-clause-goes
+returns-then-is_seen-clause-goes c start vs h = semicolon_on c.requires start vs c.if-is_seen.ensures c.if-not-may_stand.ensures c.advance.new.self c.in_ok-advance.ensures h
+
+pub returns-then-may_insert-clause-goes : goal.returns-then-may_insert-clause-goes
+returns-then-may_insert-clause-goes c start vs h = semicolon_inserted c.requires start vs c.if-is_seen.ensures (sym c.may_insert.ensures ∙ c.if-may_insert.true) h
+
+pub returns-else-may_insert-clause-goes : goal.returns-else-may_insert-clause-goes
+returns-else-may_insert-clause-goes c start vs h = semicolon_missing c.requires start vs c.if-is_seen.ensures (sym c.may_insert.ensures ∙ c.if-may_insert.false)

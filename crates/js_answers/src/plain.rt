@@ -1,0 +1,332 @@
+// The answer of a text, one step after the other, as the definitions give it.
+ghost use Rattle.std.specs.Prelude.{◌≡◌, ◌≢◌, ◌+◌, ◌<◌, ◌≤◌, ◌++◌, List, [], ◌∷◌, length, reverse, IfOk, OnOk, IfSome, MatchBool};
+ghost use Rattle.js_tree.specs.Trees.{Tree};
+ghost use Rattle.js_grammar.specs.declared.sight.Seen.TheVariants as sees;
+ghost use Rattle.js_grammar.specs.declared.symbol.Start.{Start};
+ghost use Rattle.js_grammar.specs.declared.symbol.Symbol.TheVariants as symbols_of;
+ghost use Rattle.js_grammar.specs.Answers.{Outcome, Accepted, Answer};
+ghost use Rattle.js_grammar.specs.Derivations as derivations;
+ghost use Rattle.js_grammar.specs.Ends.{Ends};
+ghost use Rattle.js_answers.specs.Forest.{Holds, HoldsTrees};
+ghost use Rattle.js_grammar.specs.Grammar as grammar;
+ghost use Rattle.js_answers.specs.Plainly.{text_of, Shows, IsAt, Goes};
+ghost use Rattle.js_grammar.specs.Parts as parts;
+ghost use Rattle.js_grammar.specs.Sights as sights;
+
+use crate::forest::{Forest, Trees};
+use crate::lists::{push_all, symbols};
+use crate::looks::may_insert;
+use crate::productions::produce;
+use crate::scans::nesting;
+use crate::seeing::sight_at;
+use js_grammar::{
+    Build, Names, Nonterminal, Open, Seen, Sight, Start, Symbol, an_end_is_the_answer,
+};
+use js_tokens::{Tokens, Word};
+use js_tree::Production;
+use mug_text::NoMemory;
+use std::alloc::Global;
+
+// The deepest nesting at which a token may stand.
+const LIMIT: usize = 200;
+
+/// How a text ends.
+#[derive(Debug, Drop)]
+pub enum PlainAnswer {
+    /// With the tree of this number in the forest.
+    Accepted { forest: Forest, root: usize },
+    /// At the token of this number.
+    Unexpected(usize),
+    TooDeep(usize),
+}
+
+// Where a reading stands: what is still to be read, the trees so far, the number of the next token, and what is seen there.
+#[derive(Debug, Drop)]
+pub(crate) struct Reading {
+    pub(crate) stack: Vec<Symbol>,
+    pub(crate) trees: Trees,
+    pub(crate) place: usize,
+    pub(crate) sight: Sight,
+}
+
+// What a step comes to.
+#[derive(Clone, Copy, Debug, PartialEq, Eq)]
+pub(crate) enum Step {
+    On,
+    Accepted(usize),
+    Unexpected(usize),
+    TooDeep(usize),
+    // From here the text ends in no way.
+    Stuck,
+}
+
+/// The answer of a text, found in at most so many steps.
+pub fn plain_answer(
+    alloc: Global,
+    tokens: &Tokens,
+    names: Names,
+    start: Start,
+    steps: usize,
+) -> Result<Option<PlainAnswer>, NoMemory>
+    ensures { IfOk result (λ found. IfSome found (λ a. (o : Outcome) × Shows a o × Answer (text_of tokens.now names start) o)) }
+{
+    an_end_is_the_answer();
+    plain_end(alloc, tokens, names, start, steps)
+}
+
+// What the text ends in, step by step.
+fn plain_end(
+    alloc: Global,
+    tokens: &Tokens,
+    names: Names,
+    start: Start,
+    steps: usize,
+) -> Result<Option<PlainAnswer>, NoMemory>
+    ensures { IfOk result (λ found. IfSome found (λ a. (o : Outcome) × Shows a o × Ends (text_of tokens.now names start) (derivations.beginning start) [] 0 o)) }
+{
+    let mut reading = Reading::new(alloc, tokens, names, start)?;
+    for _step in 0..steps {
+        match reading.step(alloc, tokens, names)? {
+            Step::On => {}
+            Step::Accepted(root) => return Ok(Some(reading.accepted(root))),
+            Step::Unexpected(place) => return Ok(Some(PlainAnswer::Unexpected(place))),
+            Step::TooDeep(place) => return Ok(Some(PlainAnswer::TooDeep(place))),
+            Step::Stuck => return Ok(None),
+        }
+    }
+    Ok(None)
+}
+
+// What is to be read at first.
+fn beginning(alloc: Global, start: Start) -> Result<Vec<Symbol>, NoMemory>
+    ensures { IfOk result (λ v. v.items ≡ derivations.beginning start) }
+{
+    match start {
+        Start::Program => symbols(
+            alloc,
+            [
+                Symbol::Build(Build::Group(0)),
+                Symbol::Part(Nonterminal::Sources),
+                Symbol::Build(Build::Root(Production::Program)),
+                Symbol::End,
+            ],
+        ),
+        Start::Handler => symbols(
+            alloc,
+            [
+                Symbol::Build(Build::Group(0)),
+                Symbol::Part(Nonterminal::Sources),
+                Symbol::Leave(Open::Function),
+                Symbol::Build(Build::Root(Production::Handler)),
+                Symbol::End,
+            ],
+        ),
+    }
+}
+
+// Whether this word is seen.
+fn is_seen(seen: Seen, word: Word) -> bool
+    ensures { MatchBool result (seen ≡ sees.Word word) (seen ≢ sees.Word word) }
+{
+    match seen {
+        Seen::Word(other) => is_same(other, word),
+        _ => false,
+    }
+}
+
+fn is_same(word: Word, other: Word) -> bool
+    ensures { MatchBool result (word ≡ other) (word ≢ other) }
+{
+    word == other
+}
+
+// Whether the end is seen.
+fn is_end(seen: Seen) -> bool
+    ensures { MatchBool result (seen ≡ sees.End) (seen ≢ sees.End) }
+{
+    matches!(seen, Seen::End)
+}
+
+impl Reading {
+    fn new(alloc: Global, tokens: &Tokens, names: Names, start: Start) -> Result<Reading, NoMemory>
+        ensures at { IfOk result (λ r. IsAt tokens.now names r) }
+        ensures trees { IfOk result (λ r. HoldsTrees r.trees []) }
+        ensures stack { IfOk result (λ r. reverse r.stack.items ≡ derivations.beginning start) }
+        ensures place { IfOk result (λ r. r.place ≡ 0) }
+    {
+        let mut stack = Vec::new(alloc);
+        push_all(&mut stack, beginning(alloc, start)?)?;
+        Ok(Reading {
+            stack,
+            trees: Trees::new(alloc),
+            place: 0,
+            sight: sight_at(alloc, names, tokens, 0)?,
+        })
+    }
+
+    fn accepted(self, root: usize) -> PlainAnswer
+        ensures { (t : Tree) → Holds self.trees.forest.items.items root t → Shows result (Accepted t) }
+    {
+        let Reading {
+            stack: _,
+            trees,
+            place: _,
+            sight: _,
+        } = self;
+        PlainAnswer::Accepted {
+            forest: trees.forest,
+            root,
+        }
+    }
+
+    // Reads the next symbol.
+    fn step(&mut self, alloc: Global, tokens: &Tokens, names: Names) -> Result<Step, NoMemory>
+        requires { IsAt tokens.now names self.old }
+        ensures at { OnOk result (IsAt tokens.now names self.new) }
+        ensures goes { IfOk result (λ step. (start : Start) (vs : List Tree) → HoldsTrees self.old.trees vs → Goes (text_of tokens.now names start) (reverse self.old.stack.items) vs self.old.place step self.new) }
+    {
+        let Some(symbol) = self.stack.pop() else {
+            return Ok(Step::Stuck);
+        };
+        self.read(alloc, tokens, names, symbol)
+    }
+
+    // Reads a symbol that was taken off.
+    fn read(
+        &mut self,
+        alloc: Global,
+        tokens: &Tokens,
+        names: Names,
+        symbol: Symbol,
+    ) -> Result<Step, NoMemory>
+        requires { IsAt tokens.now names self.old }
+        ensures at { OnOk result (IsAt tokens.now names self.new) }
+        ensures goes { IfOk result (λ step. (start : Start) (vs : List Tree) → HoldsTrees self.old.trees vs → Goes (text_of tokens.now names start) (symbol ∷ reverse self.old.stack.items) vs self.old.place step self.new) }
+    {
+        match symbol {
+            Symbol::Word(word) => self.word(alloc, tokens, names, word),
+            Symbol::End => Ok(self.end(tokens, names)),
+            Symbol::Semicolon => self.semicolon(alloc, tokens, names),
+            Symbol::FreeSemicolon => self.free_semicolon(alloc, tokens, names),
+            Symbol::Never => Ok(Step::Unexpected(self.place)),
+            Symbol::Part(part) => {
+                self.part(alloc, part)?;
+                Ok(Step::On)
+            }
+            Symbol::Build(build) => {
+                self.trees.build(alloc, build, &self.sight)?;
+                Ok(Step::On)
+            }
+            Symbol::Leave(_) => Ok(Step::On),
+        }
+    }
+
+    // Whether a token may stand here.
+    fn may_stand(&self) -> bool
+        ensures { MatchBool result (parts.nesting (reverse self.now.stack.items) ≤ LIMIT) (LIMIT < parts.nesting (reverse self.now.stack.items)) }
+    {
+        nesting(&self.stack) <= LIMIT
+    }
+
+    // Goes on behind the token.
+    fn advance(&mut self, alloc: Global, tokens: &Tokens, names: Names) -> Result<(), NoMemory>
+        requires { self.old.place < length tokens.now.items }
+        ensures { OnOk result (self.new ≡ record self.old { place = self.old.place + 1; sight = sights.sight names tokens.now (self.old.place + 1) }) }
+    {
+        let count = tokens.items.as_slice().len();
+        let inside = self.place < count;
+        prove!(inside);
+        self.sight = sight_at(alloc, names, tokens, self.place + 1)?;
+        self.place += 1;
+        Ok(())
+    }
+
+    fn word(
+        &mut self,
+        alloc: Global,
+        tokens: &Tokens,
+        names: Names,
+        word: Word,
+    ) -> Result<Step, NoMemory>
+        requires { IsAt tokens.now names self.old }
+        ensures at { OnOk result (IsAt tokens.now names self.new) }
+        ensures goes { IfOk result (λ step. (start : Start) (vs : List Tree) → HoldsTrees self.old.trees vs → Goes (text_of tokens.now names start) (symbols_of.Word word ∷ reverse self.old.stack.items) vs self.old.place step self.new) }
+    {
+        if !is_seen(self.sight.seen, word) {
+            return Ok(Step::Unexpected(self.place));
+        }
+        if !self.may_stand() {
+            return Ok(Step::TooDeep(self.place));
+        }
+        self.advance(alloc, tokens, names)?;
+        Ok(Step::On)
+    }
+
+    // A semicolon, also one that is inserted.
+    fn semicolon(&mut self, alloc: Global, tokens: &Tokens, names: Names) -> Result<Step, NoMemory>
+        requires { IsAt tokens.now names self.old }
+        ensures at { OnOk result (IsAt tokens.now names self.new) }
+        ensures goes { IfOk result (λ step. (start : Start) (vs : List Tree) → HoldsTrees self.old.trees vs → Goes (text_of tokens.now names start) (symbols_of.Semicolon ∷ reverse self.old.stack.items) vs self.old.place step self.new) }
+    {
+        if is_seen(self.sight.seen, Word::Semicolon) {
+            if !self.may_stand() {
+                return Ok(Step::Stuck);
+            }
+            self.advance(alloc, tokens, names)?;
+            return Ok(Step::On);
+        }
+        if may_insert(&self.sight) {
+            Ok(Step::On)
+        } else {
+            Ok(Step::Unexpected(self.place))
+        }
+    }
+
+    // A semicolon, also one that is inserted without a line terminator.
+    fn free_semicolon(
+        &mut self,
+        alloc: Global,
+        tokens: &Tokens,
+        names: Names,
+    ) -> Result<Step, NoMemory>
+        requires { IsAt tokens.now names self.old }
+        ensures at { OnOk result (IsAt tokens.now names self.new) }
+        ensures goes { IfOk result (λ step. (start : Start) (vs : List Tree) → HoldsTrees self.old.trees vs → Goes (text_of tokens.now names start) (symbols_of.FreeSemicolon ∷ reverse self.old.stack.items) vs self.old.place step self.new) }
+    {
+        if !is_seen(self.sight.seen, Word::Semicolon) {
+            return Ok(Step::On);
+        }
+        if !self.may_stand() {
+            return Ok(Step::Stuck);
+        }
+        self.advance(alloc, tokens, names)?;
+        Ok(Step::On)
+    }
+
+    // The text's end: all is read, and one tree is there.
+    fn end(&self, tokens: &Tokens, names: Names) -> Step
+        requires { IsAt tokens.now names self.now }
+        ensures { (start : Start) (vs : List Tree) → HoldsTrees self.now.trees vs → Goes (text_of tokens.now names start) (symbols_of.End ∷ reverse self.now.stack.items) vs self.now.place result self.now }
+    {
+        if !is_end(self.sight.seen) {
+            return Step::Unexpected(self.place);
+        }
+        if !self.stack.as_slice().is_empty() {
+            return Step::Stuck;
+        }
+        match self.trees.only() {
+            Some(root) => Step::Accepted(root),
+            None => Step::Stuck,
+        }
+    }
+
+    // Puts what is to be read in the place of the part on the stack.
+    fn part(&mut self, alloc: Global, part: Nonterminal) -> Result<(), NoMemory>
+        ensures stack { OnOk result ((vs : List Tree) → HoldsTrees self.old.trees vs → reverse self.new.stack.items ≡ grammar.produce part (reverse self.old.stack.items) self.old.sight vs ++ reverse self.old.stack.items) }
+        ensures rest { self.new ≡ record self.old { stack = self.new.stack } }
+    {
+        let last = self.trees.last();
+        let list = produce(alloc, part, &self.stack, &self.sight, last)?;
+        push_all(&mut self.stack, list)
+    }
+}

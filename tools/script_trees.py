@@ -1,0 +1,80 @@
+"""Trees of some accepted programs, by hand: a node is its production, its span and its parts."""
+
+
+def expression(text, tree):
+    return (text, "Program@0-%d[[Expression@0-%d[%s]]]" % (len(text), len(text), tree))
+
+
+def program(text, *statements):
+    return (text, "Program@0-%d[[%s]]" % (len(text), " ".join(statements)))
+
+
+a, b, c, d = "Name@0-1['a']", "Name@2-3['b']", "Name@4-5['c']", "Name@6-7['d']"
+
+TREES = [
+    expression("a+b", "Binary(Add)@0-3[Name@0-1['a'] Name@2-3['b']]"),
+    ("", "Program@0-0[[]]"),
+    (" a ; ", "Program@0-5[[Expression@1-4[Name@1-2['a']]]]"),
+    ("a /*c*/ ;//d", "Program@0-12[[Expression@0-9[Name@0-1['a']]]]"),
+    expression("(a)+b", "Binary(Add)@0-5[Name@1-2['a'] Name@4-5['b']]"),
+    expression("a+(b)", "Binary(Add)@0-5[Name@0-1['a'] Name@3-4['b']]"),
+    expression("(((a)))", "Name@3-4['a']"),
+    expression("((a)+b)*c", "Binary(Multiply)@0-9[Binary(Add)@1-6[Name@2-3['a'] Name@5-6['b']] Name@8-9['c']]"),
+    expression("a=b+=c", "Assign(None)@0-6[Name@0-1['a'] Assign(Some(Add))@2-6[Name@2-3['b'] Name@5-6['c']]]"),
+    expression("(a)=(b)", "Assign(None)@0-7[Name@1-2['a'] Name@5-6['b']]"),
+    expression("(a,b).c=d", "Assign(None)@0-9[Member@0-7[Comma@1-4[Name@1-2['a'] Name@3-4['b']] 'c'] Name@8-9['d']]"),
+    expression("a-b-c*d", "Binary(Subtract)@0-7[Binary(Subtract)@0-3[%s %s] Binary(Multiply)@4-7[%s %s]]" % (a, b, c, d)),
+    expression("a%b/c", "Binary(Divide)@0-5[Binary(Remainder)@0-3[%s %s] %s]" % (a, b, c)),
+    expression("a<=b>=c>d", "Binary(Greater)@0-9[Binary(GreaterEqual)@0-7[Binary(LessEqual)@0-4[Name@0-1['a'] Name@3-4['b']] Name@6-7['c']] Name@8-9['d']]"),
+    expression("a in b instanceof c", "Binary(InstanceOf)@0-19[Binary(In)@0-6[Name@0-1['a'] Name@5-6['b']] Name@18-19['c']]"),
+    expression("a<<1>>>2|b&c^d", "Binary(BitOr)@0-14[Binary(ShiftZero)@0-8[Binary(ShiftLeft)@0-4[Name@0-1['a'] Number(1)@3-4[]] Number(2)@7-8[]] Binary(BitXor)@9-14[Binary(BitAnd)@9-12[Name@9-10['b'] Name@11-12['c']] Name@13-14['d']]]"),
+    expression("a>>1==b!=c!==d", "Binary(NotIdentical)@0-14[Binary(NotEqual)@0-10[Binary(Equal)@0-7[Binary(ShiftRight)@0-4[Name@0-1['a'] Number(1)@3-4[]] Name@6-7['b']] Name@9-10['c']] Name@13-14['d']]"),
+    expression("a-=b*=c/=d%=e", "Assign(Some(Subtract))@0-13[Name@0-1['a'] Assign(Some(Multiply))@3-13[Name@3-4['b'] Assign(Some(Divide))@6-13[Name@6-7['c'] Assign(Some(Remainder))@9-13[Name@9-10['d'] Name@12-13['e']]]]]"),
+    expression("a<<=b>>=c>>>=d&=e^=f|=g", "Assign(Some(ShiftLeft))@0-23[Name@0-1['a'] Assign(Some(ShiftRight))@4-23[Name@4-5['b'] Assign(Some(ShiftZero))@8-23[Name@8-9['c'] Assign(Some(BitAnd))@13-23[Name@13-14['d'] Assign(Some(BitXor))@16-23[Name@16-17['e'] Assign(Some(BitOr))@19-23[Name@19-20['f'] Name@22-23['g']]]]]]]"),
+    expression("typeof a==='b'||!c&&d", "Or@0-21[Binary(Identical)@0-14[Unary(TypeOf)@0-8[Name@7-8['a']] Text@11-14['b']] And@16-21[Unary(Not)@16-18[Name@17-18['c']] Name@20-21['d']]]"),
+    expression("a?b:c,d", "Comma@0-7[Conditional@0-5[%s %s %s] %s]" % (a, b, c, d)),
+    expression("-a.b[c]++", "Unary(Minus)@0-9[Postfix(Increment)@1-9[Index@1-7[Member@1-4[Name@1-2['a'] 'b'] Name@5-6['c']]]]"),
+    expression("a-- - --b", "Binary(Subtract)@0-9[Postfix(Decrement)@0-3[Name@0-1['a']] Prefix(Decrement)@6-9[Name@8-9['b']]]"),
+    expression("void 0,~a,+b,--c", "Comma@0-16[Comma@0-12[Comma@0-9[Unary(Void)@0-6[Number(0)@5-6[]] Unary(BitNot)@7-9[Name@8-9['a']]] Unary(Plus)@10-12[Name@11-12['b']]] Prefix(Decrement)@13-16[Name@15-16['c']]]"),
+    expression("delete a[0x10]", "Unary(Delete)@0-14[Index@7-14[Name@7-8['a'] Number(16)@9-13[]]]"),
+    expression("f(a,(b,c))(d)", "Call@0-13[Call@0-10[Name@0-1['f'] [Name@2-3['a'] Comma@5-8[Name@5-6['b'] Name@7-8['c']]]] [Name@11-12['d']]]"),
+    expression("new a", "New@0-5[Name@4-5['a'] []]"),
+    expression("new new a.b(c)(d).e", "Member@0-19[New@0-17[New@4-14[Member@8-11[Name@8-9['a'] 'b'] [Name@12-13['c']]] [Name@15-16['d']]] 'e']"),
+    expression("[a,,b,]", "Array@0-7[[Name@1-2['a'] - Name@4-5['b']]]"),
+    expression("({})", "Object@1-3[[]]"),
+    expression("({a:1,\"b\":2,3:c,if:d})", "Object@1-21[[['a' Number(1)@4-5[]] ['b' Number(2)@10-11[]] ['3' Name@14-15['c']] ['if' Name@19-20['d']]]]"),
+    expression("'\\x41b'", "Text@0-7['Ab']"),
+    expression("(function(){})()", "Call@0-16[Function@1-13[- [] Body@11-13[[]]] []]"),
+    expression("x=function g(y){}", "Assign(None)@0-17[Name@0-1['x'] Function@2-17['g' ['y'] Body@15-17[[]]]]"),
+    program("this;null;true;false", "Expression@0-5[This@0-4[]]", "Expression@5-10[Null@5-9[]]", "Expression@10-15[Bool(true)@10-14[]]", "Expression@15-20[Bool(false)@15-20[]]"),
+    program("{}", "Block@0-2[[]]"),
+    program("var a=1,\nb;", "Var@0-11[[['a' Number(1)@6-7[]] ['b' -]]]"),
+    program("if(a)b;else{c}", "If@0-14[Name@3-4['a'] Expression@5-7[Name@5-6['b']] Block@11-14[[Expression@12-13[Name@12-13['c']]]]]"),
+    program("if(a)\nb\nc", "If@0-7[Name@3-4['a'] Expression@6-7[Name@6-7['b']] -]", "Expression@8-9[Name@8-9['c']]"),
+    program("if(a)if(b)c\nelse d", "If@0-18[Name@3-4['a'] If@5-18[Name@8-9['b'] Expression@10-11[Name@10-11['c']] Expression@17-18[Name@17-18['d']]] -]"),
+    program("for(var i=0;i<9;i++)f(i)", "For@0-24[Var@4-11[[['i' Number(0)@10-11[]]]] Binary(Less)@12-15[Name@12-13['i'] Number(9)@14-15[]] Postfix(Increment)@16-19[Name@16-17['i']] Expression@20-24[Call@20-24[Name@20-21['f'] [Name@22-23['i']]]]]"),
+    program("for(;;);", "For@0-8[- - - Empty@7-8[]]"),
+    program("for(a=0;;b)c", "For@0-12[Assign(None)@4-7[Name@4-5['a'] Number(0)@6-7[]] - Name@9-10['b'] Expression@11-12[Name@11-12['c']]]"),
+    program("for((k)in o){}", "ForIn@0-14[Name@5-6['k'] Name@10-11['o'] Block@12-14[[]]]"),
+    program("for(var k in o)a", "ForIn@0-16[Var@4-9[[['k' -]]] Name@13-14['o'] Expression@15-16[Name@15-16['a']]]"),
+    program("L:while(a){break L;continue}", "Labelled@0-28['L' While@2-28[Name@8-9['a'] Block@10-28[[Break@11-19['L'] Continue@19-27[-]]]]]"),
+    program("a:while(b)break\na", "Labelled@0-15['a' While@2-15[Name@8-9['b'] Break@10-15[-]]]", "Expression@16-17[Name@16-17['a']]"),
+    program("a:for(;;)continue\na", "Labelled@0-17['a' For@2-17[- - - Continue@9-17[-]]]", "Expression@18-19[Name@18-19['a']]"),
+    program("a:b:;", "Labelled@0-5['a' Labelled@2-5['b' Empty@4-5[]]]"),
+    program("do;while(a) b", "DoWhile@0-11[Empty@2-3[] Name@9-10['a']]", "Expression@12-13[Name@12-13['b']]"),
+    program("do a;while(b);", "DoWhile@0-14[Expression@3-5[Name@3-4['a']] Name@11-12['b']]"),
+    program("a\n++b", "Expression@0-1[Name@0-1['a']]", "Expression@2-5[Prefix(Increment)@2-5[Name@4-5['b']]]"),
+    program("function f(a,b){return a}", "Declaration@0-25['f' ['a' 'b'] Body@15-25[[Return@16-24[Name@23-24['a']]]]]"),
+    program("function f(){return\n1}", "Declaration@0-22['f' [] Body@12-22[[Return@13-19[-] Expression@20-21[Number(1)@20-21[]]]]]"),
+    program("switch(a){case 1:b;default:c}", "Switch@0-29[Name@7-8['a'] [[Number(1)@15-16[] [Expression@17-19[Name@17-18['b']]]] [- [Expression@27-28[Name@27-28['c']]]]]]"),
+    program("while(a)switch(b){}", "While@0-19[Name@6-7['a'] Switch@8-19[Name@15-16['b'] []]]"),
+    program("try{a}catch(e){}finally{b}", "Try@0-26[[Expression@4-5[Name@4-5['a']]] ['e' []] [Expression@24-25[Name@24-25['b']]]]"),
+    program("try{}finally{}", "Try@0-14[[] - []]"),
+    program("a:do continue a;while(b)", "Labelled@0-24['a' DoWhile@2-24[Continue@5-16['a'] Name@22-23['b']]]"),
+    program("try{}catch(e){;}", "Try@0-16[[] ['e' [Empty@14-15[]]] -]"),
+    program("switch(a){default:case b:}", "Switch@0-26[Name@7-8['a'] [[- []] [Name@23-24['b'] []]]]"),
+    program("for(var a,b=1;;)c", "For@0-17[Var@4-13[[['a' -] ['b' Number(1)@12-13[]]]] - - Expression@16-17[Name@16-17['c']]]"),
+    program("for(((k))in o);", "ForIn@0-15[Name@6-7['k'] Name@12-13['o'] Empty@14-15[]]"),
+    expression("(function(){return a,b;})", "Function@1-24[- [] Body@11-24[[Return@12-23[Comma@19-22[Name@19-20['a'] Name@21-22['b']]]]]]"),
+    program("throw new E(\"x\")", "Throw@0-16[New@6-16[Name@10-11['E'] [Text@12-15['x']]]]"),
+]
