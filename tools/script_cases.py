@@ -30,7 +30,7 @@ def cases(reason, *texts, kind=PAGE):
 
 cases("a program may be empty (14)", "", " ", "\n", "//a", "/*a*/", "/*\n*/")
 case("function f(){return\n1}\nvar a=1,\nb=2\na\n++b\ndo;while(0) console.log(f(),a,b)", "each insertion in one script (7.9)")
-case("1 ‸2", "no semicolon is inserted within a line (7.9.1)")
+cases("three scripts of one page, of which the second doesn't read", "x", "1 ‸2", "console.log(\"on\")")
 case("if(a)\n‸else b", "a semicolon is never inserted as an empty statement (7.9.1)")
 case("function f(){‸", "the end stands in the place of the brace")
 case("a=‸/b/", "`/` always divides, so that there are no regular expressions")
