@@ -5,7 +5,7 @@ ghost use Rattle.js_grammar.specs.Programs.{OneVerdict};
 
 use js_tokens::tokens_are_one;
 
-/// The answer of a text is one.
+/// A text has never two answers.
 pub fn an_answer_is_one()
     ensures { OneAnswer }
 {}
@@ -20,7 +20,7 @@ pub fn an_end_is_the_answer()
     ensures { EndIsAnswer }
 {}
 
-/// A text of units has one program or one place where it is refused, and never both.
+/// A text of units has never two programs, two places where it is refused, or both.
 pub fn a_verdict_is_one()
     ensures { OneVerdict }
 {
