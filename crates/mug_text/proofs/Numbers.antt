@@ -75,28 +75,6 @@ pub some_index : (us : List ℕ) (n : ℕ) → all_ascii_digits us ≡ true → 
 some_index us n digits more alone is small =
     (small, sym (ap decimal (sym is) ∙ decimal-digits_value own us digits more alone (omega (arith, is, small))))
 
--- ASCII bytes are their own units
-own_units : (bs : List ℕ) → All (λ b. b < 128) bs → flat_map encode_utf16 bs ≡ bs
-own_units [] small = refl
-own_units (b ∷ bs) small =
-    ap (λ l. l ++ flat_map encode_utf16 bs) (narrow_units b (omega (arith, All-head (λ x. x < 128) b bs small)))
-    ∙ ap (λ l. b ∷ l) (own_units bs (All-tail (λ x. x < 128) b bs small))
-
-ascii_text : (bs : List ℕ) → IsAscii bs → IsText bs bs
-ascii_text bs ascii =
-    let is = IsUtf8-from_ascii bs ascii in
-    let points : is.0 ≡ bs = encodes_same is.0 bs (is.1.1 ∙ sym (encodes-IsAscii bs ascii)) in
-    record {
-      points = is.0;
-      scalars = is.1.0;
-      bytes_are = sym is.1.1;
-      units_are = sym (ap (flat_map encode_utf16) points ∙ own_units bs (All-from_ascii bs ascii));
-    }
-
-pub spelled_text : (n : ℤ) {bytes units : List ℕ} → mag n < 2 ^ 63 → IsText bytes units → bytes ≡ signed_decimal n → units ≡ spelling n
-spelled_text n {bytes} {units} small text is =
-    same_units (subst (λ (l : List ℕ). IsText l units) is text) (ascii_text (signed_decimal n) (IsAscii-signed n small))
-
 -- a text spells one index at most
 pub one_index : (us : List ℕ) (m n : ℕ) → IsIndex us m → IsIndex us n → m ≡ n
 one_index us m n first second = decimal_injective m n (wide m first.0) (wide n second.0) (sym first.1 ∙ second.1)

@@ -2,7 +2,7 @@
 ghost use Rattle.std.specs.Prelude.{◌≡◌, ◌↔◌, ◌<◌, length, slice_index, IsTrue, MatchOption};
 ghost use Rattle.mug_text.specs.Number.{IsIndex, NoIndex};
 
-use crate::JText;
+use crate::{INDEX_END, JText};
 
 impl JText {
     /// The array index that the text spells, if it spells one.
@@ -19,8 +19,7 @@ fn index(units: &[u16]) -> Option<u32>
     if units.is_empty() || is_padded(units) {
         return None;
     }
-    // The largest length of an array, which is no index.
-    let end = 0xFFFF_FFFF;
+    let end = u64::from(INDEX_END);
     let mut value = 0u64;
     for unit in units {
         let unit = u64::from(*unit);

@@ -2,8 +2,11 @@
 #![tactic(auto)]
 
 mod bytes;
+mod characters;
 mod compared;
+mod digits;
 mod index;
+mod limits;
 mod listed;
 mod memory;
 mod number;
@@ -12,10 +15,10 @@ mod text;
 mod utf8;
 
 pub use bytes::Bytes;
+pub use characters::{is_blank, is_digit, is_line_end, is_space, trimmed};
+pub use digits::{decimal_below, digit_value, digits_number};
+pub use limits::{INDEX_END, PAGE_LIMIT, SAFE_END, TEXT_LIMIT};
 pub use listed::Listed;
 pub use memory::NoMemory;
 pub use number::number_text;
 pub use text::{JText, TextFault};
-
-#[cfg(test)]
-mod tests;

@@ -1,9 +1,11 @@
 // Texts of 16-bit units.
 ghost use Rattle.std.specs.Prelude.{◌≡◌, ◌≢◌, ℕ, ◌<◌, ◌≤◌, ◌++◌, List, length, slice_index, slice_range, All, OnOk, OnErr, IfOk, IfErr};
+ghost use Rattle.mug_text.specs.Characters.{trimmed};
 ghost use Rattle.mug_text.specs.Text.{shown_text, utf8_of, IsText, IsWellFormed};
 ghost use Rattle.mug_text.specs.TextFault.{Refuses};
 
 use crate::NoMemory;
+use crate::characters::trimmed_place;
 use crate::shown::push_text;
 use crate::utf8::{count_utf8, push_utf8};
 use std::alloc::{AllocError, Global};
@@ -12,7 +14,10 @@ use std::rc::Rc;
 use std::str;
 use thiserror::Error;
 
-/// An immutable list of 16-bit units (ECMA-262 edition 5.1, 8.4). Copies and slices share the units.
+// A buffer of so many units is kept whole by each of its parts; of a longer one, by a part of a quarter of it or more.
+const SHORT: usize = 64;
+
+/// An immutable list of 16-bit units (ECMA-262 edition 5.1, 8.4). Copies share the units, and so do slices that are no small part of them.
 #[derive(Drop)]
 pub struct JText {
     // The text is the part of the buffer from `from` up to `to`.
@@ -82,7 +87,15 @@ impl JText {
     pub fn copy(&self) -> Result<JText, NoMemory>
         ensures { IfOk result (λ copy. copy ≡ self.now) }
     {
-        self.slice(0, self.len())
+        self.share(0, self.len())
+    }
+
+    /// The text without the blanks at both ends (15.5.4.20).
+    pub fn trim(&self) -> Result<JText, NoMemory>
+        ensures { IfOk result (λ text. text ≡ trimmed self.now) }
+    {
+        let (from, to) = trimmed_place(self.as_slice());
+        self.slice(from, to)
     }
 
     /// The units of this text, and then those of the other.
@@ -98,8 +111,22 @@ impl JText {
         Ok(JText::whole(units)?)
     }
 
-    /// Another owner of the units from one index up to another.
+    /// The units from one index up to another. A short part of long units is copied, so that it doesn't keep them.
     pub fn slice(&self, from: usize, to: usize) -> Result<JText, NoMemory>
+        requires ordered { from ≤ to }
+        requires within { to ≤ length self.now }
+        ensures { IfOk result (λ part. part ≡ slice_range self.now from to) }
+    {
+        let kept = self.buffer.as_ref().len();
+        if kept <= SHORT || (to - from) >= kept / 4 {
+            return self.share(from, to);
+        }
+        let alloc = *self.buffer.as_ref().allocator();
+        JText::from_units(alloc, &self.as_slice()[from..to])
+    }
+
+    /// Another owner of the units from one index up to another, which keeps them all.
+    pub fn share(&self, from: usize, to: usize) -> Result<JText, NoMemory>
         requires ordered { from ≤ to }
         requires within { to ≤ length self.now }
         ensures { IfOk result (λ part. part ≡ slice_range self.now from to) }
@@ -164,6 +191,17 @@ impl JText {
             out.truncate(before);
         }
         pushed
+    }
+
+    // The text of just these bytes.
+    pub(crate) fn of_ascii(alloc: Global, bytes: &[u8]) -> Result<JText, NoMemory>
+        ensures { IfOk result (λ text. text ≡ bytes.now) }
+    {
+        let mut units = Vec::with_capacity(alloc, bytes.len())?;
+        for byte in bytes {
+            units.push(u16::from(*byte))?;
+        }
+        Ok(JText::whole(units)?)
     }
 
     // The text that this is in UTF-16.

@@ -1,6 +1,6 @@
 use Rattle.std.proofs.Common.{ℕ, ◌+◌, ◌≤◌, List, Vec, Global, length, slice_range, sym, ap, subst, ◌∙◌}
 use Rattle.mug_text.proofs.Parts.{part_of_part}
-use Rattle.mug_text.proofs.text.JText.slice.Goals as goal
+use Rattle.mug_text.proofs.text.JText.share.Goals as goal
 
 pub returns : goal.returns
 returns c =
