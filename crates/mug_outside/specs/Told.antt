@@ -1,5 +1,5 @@
 -- Contents that are told, or not.
-use Rattle.std.specs.Prelude.{◌≡◌, ℕ, List, ◌∷◌, ◌++◌, Option, option_map}
+use Rattle.std.specs.Prelude.{◌≡◌, ℕ, ◌≤◌, List, ◌∷◌, ◌++◌, length, Option, option_map}
 
 -- these bytes, and then the others, where the others are told
 abbrev pub ahead : List ℕ → Option (List ℕ) → Option (List ℕ)
@@ -16,3 +16,7 @@ TookPart text old new = (part : List ℕ) × (rest : List ℕ) × (text ≡ part
 -- such a part, and not the whole
 abbrev pub TookLess : List ℕ → Option (List ℕ) → Option (List ℕ) → Type 0
 TookLess text old new = (part : List ℕ) × (byte : ℕ) × (rest : List ℕ) × (text ≡ part ++ byte ∷ rest) × (new ≡ behind part old)
+
+-- at most this many bytes were read from the front of the old content
+abbrev pub ReadWithin : ℕ → Option (List ℕ) → Option (List ℕ) → Type 0
+ReadWithin limit old new = (read : List ℕ) × (length read ≤ limit) × (old ≡ ahead read new)

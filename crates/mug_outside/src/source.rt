@@ -1,6 +1,6 @@
 // Bytes that come in.
 ghost use Rattle.std.specs.Prelude.{◌≡◌, ℕ, ◌<◌, ◌≤◌, ◌^◌, List, [], length, take, Option, IfOk, IfSome, OnErr, IsErrOf};
-ghost use Rattle.mug_outside.specs.Told.{ahead};
+ghost use Rattle.mug_outside.specs.Told.{ReadWithin, ahead};
 ghost use Rattle.mug_outside.specs.Cause.{HasCause, Rose};
 
 use crate::Failed;
@@ -42,10 +42,12 @@ const CHUNK: usize = 4096;
 
 /// All the bytes that are left, at most `limit` of them.
 pub fn read_all<S: Source>(alloc: Global, source: &mut S, limit: usize) -> Result<Bytes, ReadAll>
-    requires { limit < 2 ^ 62 }
     ensures ok { IfOk result (λ all. (length all ≤ limit) × (S.left source.old ≡ ahead all (S.left source.new)) × IfSome (S.left source.new) (λ bytes. bytes ≡ [])) }
     ensures large { IsErrOf result ReadAll.TooLarge → IfSome (S.left source.old) (λ bytes. limit < length bytes) }
     ensures fault { IsErrOf result ReadAll.ReadFault → Rose (S.faults source.old) (S.faults source.new) }
+
+    // What was read before the fault is within the limit: bytes above it are too large, whatever would fail behind them.
+    ensures within { IsErrOf result ReadAll.ReadFault → ReadWithin limit (S.left source.old) (S.left source.new) }
     ensures later { S.faults source.old ≤ S.faults source.new }
 {
     let mut all = Vec::new(alloc);

@@ -22,8 +22,8 @@ fn the_listed_calls_fail(rt: HostRuntime) -> Result<(), Fail> {
 
 #[test]
 fn all_is_read_within_the_limit(rt: HostRuntime) -> Result<(), Fail> {
-    // Of so many bytes, with this call listed, up to this limit.
-    let rows: [(usize, u64, usize, Option<ReadAll>); 7] = [
+    // Of so many bytes, with this call listed, up to this limit. Bytes above it are too large though the next call would fail.
+    let rows: [(usize, u64, usize, Option<ReadAll>); 8] = [
         (0, 0, 0, None),
         (5, 0, 5, None),
         (5, 0, 4, Some(ReadAll::TooLarge)),
@@ -31,6 +31,7 @@ fn all_is_read_within_the_limit(rt: HostRuntime) -> Result<(), Fail> {
         (4097, 0, 4097, None),
         (4097, 2, 4097, Some(ReadAll::ReadFault)),
         (4097, 0, 4096, Some(ReadAll::TooLarge)),
+        (5000, 2, 4095, Some(ReadAll::TooLarge)),
     ];
     for (size, listed, limit, fault) in rows {
         let bytes = vec![in rt.alloc(); 7u8; size]?;
