@@ -1,4 +1,3 @@
-pub mod Numbers
 pub mod Splitting
 pub mod Stops
 pub mod Grouping

@@ -3,6 +3,7 @@ use Rattle.std.specs.Prelude.{◌≡◌, ◌≢◌, ℕ, ◌+◌, ◌<◌, ◌�
 use Rattle.mug_text.specs.Text.{IsText}
 use Rattle.url.specs.Parser.{parse_url}
 use Rattle.url.specs.Parts.{Parts, serialize}
+use Rattle.arrival_file.specs.declared.reading.TheConstants.{FILE_LIMIT}
 use Rattle.arrival_file.specs.declared.arrival.Arrival.{Arrival}
 use Rattle.arrival_file.specs.declared.arrival.Arrivals.{Arrivals}
 use Rattle.arrival_file.specs.declared.arrival.ArrivalKind.{ArrivalKind}
@@ -13,9 +14,9 @@ use Rattle.arrival_file.specs.declared.entry.Entry.TheVariants.{Load, Now, Rand}
 
 -- ---- lines
 
--- a file has at most 64 MiB
+-- a file is within the limit
 abbrev pub IsSmall : List ℕ → Type 0
-IsSmall bytes = length bytes ≤ 67108864
+IsSmall bytes = length bytes ≤ FILE_LIMIT
 
 -- neither a space nor a line feed stands in a field
 abbrev pub IsField : List ℕ → Type 0

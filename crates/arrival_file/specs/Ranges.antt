@@ -1,4 +1,5 @@
 -- How far what arrivals hold can go.
+use Rattle.arrival_file.specs.declared.reading.TheConstants.{FILE_LIMIT}
 use Rattle.std.specs.Prelude.{ℕ, ◌<◌, ◌≤◌, ◌^◌, List, length, All}
 use Rattle.mug_text.specs.Text.{IsText}
 use Rattle.arrival_file.specs.declared.arrival.Arrival.{Arrival}
@@ -20,5 +21,5 @@ pub record IsInRange (arrival : Arrival) : Type 0 where
 pub record InRanges (arrivals : Arrivals) : Type 0 where
   pub base : List ℕ
   pub text : IsText base arrivals.base
-  pub small : length base ≤ 67108864
+  pub small : length base ≤ FILE_LIMIT
   pub turns : All IsInRange arrivals.turns

@@ -1,5 +1,5 @@
 -- What the steps of the reader answer, one line at a time.
-use Rattle.std.specs.Prelude.{◌≡◌, ◌≢◌, ℕ, ◌+◌, ◌<◌, ◌^◌, ◌⊎◌, Bool, false, ◌||◌, ◌==◌, List, [], ◌∷◌, ◌++◌, length, flat_map, All, slice_index, codes, decimal, Option, None, Some, Ok}
+use Rattle.std.specs.Prelude.{◌≡◌, ◌≢◌, ℕ, ◌+◌, ◌<◌, ◌^◌, ◌⊎◌, Bool, false, ◌||◌, ◌==◌, List, [], ◌∷◌, ◌++◌, length, flat_map, All, codes, decimal, Option, None, Some, Ok}
 use Rattle.url.specs.Parser.{parse_url}
 use Rattle.url.specs.Parts.{Parts, serialize}
 use Rattle.arrival_file.specs.Format.{AreInOrder, Before, Entries, Breaks, HasLaterWord, HasLine, HasNoLine, IsBase, IsEntry, IsField, MayFollow, entry_text, is_turn, line_of, nows_of, rands_of}
@@ -14,10 +14,6 @@ use Rattle.arrival_file.specs.declared.entry.Entry.TheVariants.{Load}
 use Rattle.arrival_file.specs.declared.stop.Stop.{Stop}
 use Rattle.arrival_file.specs.declared.stop.Stop.TheVariants.{Breaks as breaks, NotBuilt, NoMemory}
 use Rattle.arrival_file.specs.declared.turns.OpenTurn.{OpenTurn}
-
--- a sign stands in front, or a zero that isn't alone
-abbrev pub IsPadded : List ℕ → Type 0
-IsPadded field = (slice_index field 0 ≡ 43) ⊎ ((slice_index field 0 ≡ 48) × (1 < length field))
 
 -- a byte that ends a word or a field
 abbrev pub is_end : ℕ → Bool

@@ -6,8 +6,8 @@ ghost use Rattle.arrival_file.specs.declared.entry.Entry.{Entry};
 
 use crate::ArrivalKind;
 use crate::fields::{is_word, split_line};
-use crate::number::number;
 use crate::stop::Stop;
+use mug_text::{SAFE_END, decimal_below};
 
 #[derive(Clone, Copy)]
 pub enum Entry {
@@ -15,9 +15,6 @@ pub enum Entry {
     Now { v: u64 },
     Rand { w: u32 },
 }
-
-// Moments and readings of the clock are below this, 2^53.
-const TIME_END: u64 = 9_007_199_254_740_992;
 
 // Random words are below this, 2^32.
 const WORD_END: u64 = 4_294_967_296;
@@ -27,13 +24,13 @@ fn entry_of(word: &[u8], field: &[u8]) -> Result<Entry, ArrivalKind>
     ensures { MatchResult result (λ entry. Spells word.now field.now entry) (λ kind. SpellsNone word.now field.now kind) }
 {
     if is_word(word, b"load") {
-        let t = number(field, TIME_END).ok_or(ArrivalKind::Number)?;
+        let t = decimal_below(field, SAFE_END).ok_or(ArrivalKind::Number)?;
         Ok(Entry::Load { t })
     } else if is_word(word, b"now") {
-        let v = number(field, TIME_END).ok_or(ArrivalKind::Number)?;
+        let v = decimal_below(field, SAFE_END).ok_or(ArrivalKind::Number)?;
         Ok(Entry::Now { v })
     } else if is_word(word, b"rand") {
-        let w = number(field, WORD_END).ok_or(ArrivalKind::Number)?;
+        let w = decimal_below(field, WORD_END).ok_or(ArrivalKind::Number)?;
         Ok(Entry::Rand { w: w as u32 })
     } else {
         Err(ArrivalKind::Form)

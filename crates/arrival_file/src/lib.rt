@@ -5,7 +5,6 @@ mod arrival;
 mod entry;
 mod fields;
 mod laws;
-mod number;
 mod reading;
 mod stop;
 #[cfg(test)]
@@ -14,4 +13,4 @@ mod turns;
 
 pub use arrival::{Arrival, ArrivalFault, ArrivalKind, Arrivals, Turn};
 pub use laws::{an_answer_is_one, arrivals_are_bounded};
-pub use reading::read_arrivals;
+pub use reading::{FILE_LIMIT, read_arrivals};

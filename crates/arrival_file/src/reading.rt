@@ -14,8 +14,8 @@ use std::alloc::Global;
 use std::str;
 use url::{ParseError, Url};
 
-// The most bytes of a file, 64 MiB.
-const FILE_LIMIT: usize = 67_108_864;
+/// The most bytes of an arrival file, 64 MiB.
+pub const FILE_LIMIT: usize = 67_108_864;
 
 // The bytes behind the first line.
 fn read_header(bytes: &[u8]) -> Result<&[u8], Stop>

@@ -2,6 +2,7 @@
 ghost use Rattle.std.specs.Prelude.{◌≡◌, ℕ, ◌≤◌, List, [], ◌∷◌, ◌++◌, length, MatchResult, IfOk};
 ghost use Rattle.arrival_file.specs.Format.{MayFollow, turns_of};
 ghost use Rattle.arrival_file.specs.Steps.{FaultIn, HasRead, PutsNot, SoFar};
+ghost use Rattle.arrival_file.specs.declared.reading.TheConstants.{FILE_LIMIT};
 ghost use Rattle.arrival_file.specs.declared.entry.Entry.{Entry};
 
 use crate::entry::{Entry, read_entry};
@@ -65,7 +66,7 @@ fn close(alloc: Global, current: Option<OpenTurn>) -> Result<Vec<Arrival>, NoMem
 
 // Reads the entries of a file from the bytes behind its first two lines.
 pub fn read_turns(alloc: Global, bytes: &[u8]) -> Result<Vec<Arrival>, ArrivalFault>
-    requires { length bytes.now ≤ 67108864 }
+    requires { length bytes.now ≤ FILE_LIMIT }
     ensures { MatchResult result (λ turns. (entries : List Entry) × SoFar bytes.now entries [] × (turns.items ≡ turns_of entries)) (λ fault. FaultIn bytes.now fault) }
 {
     let mut current = None;

@@ -2,6 +2,7 @@
 use Rattle.std.specs.Prelude.{◌≡◌, ◌≢◌, ℕ, ◌<◌, ◌≤◌, ◌^◌, List, ◌∷◌, ◌++◌, length, All}
 use Rattle.std.specs.Int.{to_be_bytes, w32, w64}
 use Rattle.mug_text.specs.Text.{IsWellFormed, utf8_of}
+use Rattle.input_log.specs.declared.item.TheConstants.{STEPS_LIMIT}
 use Rattle.input_log.specs.declared.item.LogItem.{LogItem}
 use Rattle.input_log.specs.declared.item.LogItem.TheVariants.{Head, Load, Now, Rand}
 
@@ -22,10 +23,10 @@ pub record IsBase (base : List ℕ) : Type 0 where
   pub well_formed : IsWellFormed base
   pub sized : length (utf8_of base) < 2 ^ 32
 
--- the fields are in their ranges: moments and readings at most 2^53 - 1, budgets from 1 to 10^9, random words of 32 bits,
+-- the fields are in their ranges: moments and readings at most 2^53 - 1, budgets at least 1 and within the limit, random words of 32 bits,
 -- pages of at most 4 MiB and 450 bytes
 abbrev pub IsItem : LogItem → Type 0
-IsItem (Head base budget page) = IsBase base × (1 ≤ budget) × (budget ≤ 1000000000) × (length page ≤ 4194754)
+IsItem (Head base budget page) = IsBase base × (1 ≤ budget) × (budget ≤ STEPS_LIMIT) × (length page ≤ 4194754)
 IsItem (Load t) = t < 2 ^ 53
 IsItem (Now v) = v < 2 ^ 53
 IsItem (Rand w) = w < 2 ^ 32

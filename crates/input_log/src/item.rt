@@ -1,5 +1,10 @@
 // An item of a session file.
+ghost use Rattle.std.specs.Prelude.{◌≡◌};
+
 use mug_text::{Bytes, JText};
+
+/// The most page steps of a budget.
+pub const STEPS_LIMIT: u64 = 1_000_000_000;
 
 /// What a session file logs. Moments, clock readings and times are in milliseconds.
 #[derive(Debug, Drop)]
@@ -22,4 +27,71 @@ pub enum LogItem {
     Rand {
         w: u32,
     },
+}
+
+/// The word by which an item is named in a list.
+#[derive(Clone, Copy, Debug, PartialEq, Eq)]
+pub enum Word {
+    Head,
+    Load,
+    Now,
+    Rand,
+}
+
+impl LogItem {
+    ghost use Rattle.input_log.specs.Kinds.{begins_turn, is_head, is_input, word_of};
+
+    /// Whether it is the item that a session begins with.
+    pub fn is_head(&self) -> bool
+        ensures { result ≡ is_head self.now }
+    {
+        match self {
+            LogItem::Head {
+                base: _,
+                budget: _,
+                page: _,
+            } => true,
+            _ => false,
+        }
+    }
+
+    /// Whether it is what a page is given while it runs.
+    pub fn is_input(&self) -> bool
+        ensures { result ≡ is_input self.now }
+    {
+        match self {
+            LogItem::Head {
+                base: _,
+                budget: _,
+                page: _,
+            } => false,
+            _ => true,
+        }
+    }
+
+    /// Whether it is the first input of a turn.
+    pub fn begins_turn(&self) -> bool
+        ensures { result ≡ begins_turn self.now }
+    {
+        match self {
+            LogItem::Load { t: _ } => true,
+            _ => false,
+        }
+    }
+
+    /// The word by which a list names it.
+    pub fn word(&self) -> Word
+        ensures { result ≡ word_of self.now }
+    {
+        match self {
+            LogItem::Head {
+                base: _,
+                budget: _,
+                page: _,
+            } => Word::Head,
+            LogItem::Load { t: _ } => Word::Load,
+            LogItem::Now { v: _ } => Word::Now,
+            LogItem::Rand { w: _ } => Word::Rand,
+        }
+    }
 }

@@ -3,7 +3,7 @@ ghost use Rattle.std.specs.Prelude.{◌≡◌, ◌≢◌, ℕ, ◌<◌, ◌^◌,
 ghost use Rattle.std.specs.Int.{to_be_bytes, w32, w64};
 ghost use Rattle.input_log.specs.Items.{BeginsWith, BeginsWithNone, HasHead, HasNoHead, sized};
 
-use crate::LogItem;
+use crate::{LogItem, STEPS_LIMIT};
 use mug_text::{Bytes, JText, NoMemory, TextFault};
 use std::alloc::Global;
 
@@ -12,9 +12,6 @@ const PAGE_LIMIT: usize = 4_194_754;
 
 /// The fewest page steps that a budget has.
 const BUDGET_LEAST: u64 = 1;
-
-/// The most page steps that a budget has.
-const BUDGET_LIMIT: u64 = 1_000_000_000;
 
 /// Moments and readings of the clock are below this, 2^53.
 const TIME_END: u64 = 9_007_199_254_740_992;
@@ -75,7 +72,7 @@ fn head_at(alloc: Global, bytes: &[u8]) -> Result<Option<(LogItem, usize)>, NoMe
     let Some((page, _)) = sized_at(rest) else {
         return Ok(None);
     };
-    if budget < BUDGET_LEAST || budget > BUDGET_LIMIT || page.len() > PAGE_LIMIT {
+    if budget < BUDGET_LEAST || budget > STEPS_LIMIT || page.len() > PAGE_LIMIT {
         return Ok(None);
     }
     let size = 17 + base.len() + page.len();

@@ -1,15 +1,17 @@
 -- One frame more.
+use Rattle.std.specs.Prelude.{All}
 use Rattle.std.proofs.Common.{◌≡◌, ◌≢◌, ℕ, ◌+◌, ◌<◌, ◌^◌, Bool, true, false, ◌==◌, List, [], ◌∷◌, ◌++◌, length, drop, map, refl, sym, ◌∙◌, ap, subst, arith, append_assoc, length-append}
-use Rattle.std.proofs.lemmas.List.Elements.{All-head, All-tail, All-push, All-nil}
+use Rattle.std.proofs.lemmas.List.Elements.{All-append, All-head, All-tail, All-push, All-nil}
 use Rattle.std.proofs.lemmas.Bool.Decides.{nat_tests}
 use Rattle.std.proofs.lemmas.Grind.{flat_map-append}
 use Rattle.std.proofs.lemmas.List.{append-nil, map-append}
 use Rattle.input_log.specs.Items.{IsItem}
+use Rattle.input_log.specs.Kinds.{is_head}
 use Rattle.input_log.specs.declared.item.LogItem.{LogItem}
 use Rattle.input_log.proofs.Laws.{same_item}
 use Rattle.log_frames.specs.Frames.{OpensFrame, frame, opened}
-use Rattle.session_store.specs.Session.{AreInputs, AreItems, IsLog, MayFollow, items_of, magic, payload_of}
-use Rattle.session_store.specs.Steps.{Follows, MayStand, SoFar}
+use Rattle.session_store.specs.Session.{AreInputs, AreItems, IsLog, KeepsRules, MayFollow, items_of, magic, payload_of}
+use Rattle.session_store.specs.Steps.{AreOfFrames, Follows, MayStand, SoFar}
 use Rattle.session_store.proofs.Items.{no_bytes}
 
 -- a payload is that of one list of items
@@ -90,3 +92,36 @@ further bytes payload old new at at' so_far opens next follows =
           ∙ sym (flat_map-append (λ (items : List LogItem). items) frames (group ∷ []) ∙ ap (λ (l : List LogItem). items_of frames ++ l) (append-nil group));
       place = omega (arith, so_far.place, next, length-opened-push (map payload_of frames) payload, ap (λ (l : List (List ℕ)). length (opened l)) payloads);
     }
+
+-- ---- the items in a row
+
+items_push : (frames : List (List LogItem)) (group old new : List LogItem) → old ≡ items_of frames → new ≡ old ++ group → new ≡ items_of (frames ++ group ∷ [])
+items_push frames group old new is grown =
+    grown ∙ ap (λ (l : List LogItem). l ++ group) is
+    ∙ sym (flat_map-append (λ (items : List LogItem). items) frames (group ∷ []) ∙ ap (λ (l : List LogItem). items_of frames ++ l) (append-nil group))
+
+-- a frame that reads, behind those so far
+pub frames_further : (payload : List ℕ) (old new : List LogItem) → AreOfFrames old → ((before : List (List LogItem)) → IsLog before → old ≡ items_of before → Follows before payload old new) → AreOfFrames new
+frames_further payload old new so_far next =
+    let frames = so_far.0 in
+    let follows = next frames so_far.1 so_far.2 in
+    (frames ++ follows.0 ∷ [], log-push frames follows.0 so_far.1 follows.1, items_push frames follows.0 old new so_far.2 follows.3)
+
+-- the items of the frames behind the first
+later_items : (P : LogItem → Type 0) (Q : List LogItem → Type 0) (frames : List (List LogItem)) → ((items : List LogItem) → Q items → All P items) → All Q frames → All P (items_of frames)
+later_items P Q [] each all = All-nil P
+later_items P Q (items ∷ frames) each all =
+    All-append P items (items_of frames) (each items (All-head Q items frames all)) (later_items P Q frames each (All-tail Q items frames all))
+
+-- the items of a log keep the rules
+log_keeps : (frames : List (List LogItem)) → IsLog frames → KeepsRules (items_of frames)
+log_keeps [] log = tt
+log_keeps (first ∷ others) log =
+    let head = log.0.1 in
+    let valid : AreItems (items_of others) = later_items IsItem (λ items. AreItems items × AreInputs items) others (λ items q. q.0) log.1 in
+    let no_head : All (λ item. is_head item ≡ false) (items_of others) = later_items (λ item. is_head item ≡ false) (λ items. AreItems items × AreInputs items) others (λ items q. q.1.1) log.1 in
+    subst (λ (l : List LogItem). KeepsRules (l ++ items_of others)) (sym head.1)
+    (All-append IsItem (head.0 ∷ []) (items_of others) (subst (All IsItem) head.1 log.0.0) valid, head.2, no_head)
+
+pub frames_keep : (items : List LogItem) → AreOfFrames items → KeepsRules items
+frames_keep items so_far = subst KeepsRules (sym so_far.2) (log_keeps so_far.0 so_far.1)

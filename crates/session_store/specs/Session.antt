@@ -1,8 +1,8 @@
 -- The session file: eight bytes, and frames from a gate on, each with a payload of items.
-use Rattle.std.specs.Prelude.{◌≡◌, ◌≢◌, ℕ, Bool, true, false, List, [], ◌∷◌, ◌++◌, flat_map, All, codes}
+use Rattle.std.specs.Prelude.{◌≡◌, ◌≢◌, ℕ, true, false, List, [], ◌∷◌, ◌++◌, flat_map, All, codes}
 use Rattle.input_log.specs.Items.{IsItem, encoding}
+use Rattle.input_log.specs.Kinds.{is_head}
 use Rattle.input_log.specs.declared.item.LogItem.{LogItem}
-use Rattle.input_log.specs.declared.item.LogItem.TheVariants.{Head, Load, Now, Rand}
 
 -- the bytes with which a session begins
 abbrev pub magic : List ℕ
@@ -26,20 +26,6 @@ items_of frames = flat_map (λ items. items) frames
 abbrev pub AreItems : List LogItem → Type 0
 AreItems items = All IsItem items
 
--- the item that begins a session
-abbrev pub is_head : LogItem → Bool
-is_head (Head base budget page) = true
-is_head (Load t) = false
-is_head (Now v) = false
-is_head (Rand w) = false
-
--- what a page is given while it runs: a turn, a reading of the clock, a random word
-abbrev pub is_input : LogItem → Bool
-is_input (Head base budget page) = false
-is_input (Load t) = true
-is_input (Now v) = true
-is_input (Rand w) = true
-
 -- the items of the first frame: a head alone
 abbrev pub IsHeadAlone : List LogItem → Type 0
 IsHeadAlone items = (head : LogItem) × (items ≡ head ∷ []) × (is_head head ≡ true)
@@ -57,3 +43,13 @@ IsLog (first ∷ others) = (AreItems first × IsHeadAlone first) × All (λ item
 abbrev pub MayFollow : List (List LogItem) → List LogItem → Type 0
 MayFollow [] items = AreItems items × IsHeadAlone items
 MayFollow (first ∷ others) items = AreItems items × AreInputs items
+
+-- the rules on all items in a row: there are none, or a head and behind it no head, and each is in its ranges
+abbrev pub KeepsRules : List LogItem → Type 0
+KeepsRules [] = Unit {0}
+KeepsRules (head ∷ inputs) = AreItems (head ∷ inputs) × (is_head head ≡ true) × All (λ item. is_head item ≡ false) inputs
+
+-- what contracts see of a session that was recovered: its items, and the offset just behind its last open, whole frame
+pub record SessionState : Type 0 where
+  pub items : List LogItem
+  pub end : ℕ

@@ -1,7 +1,7 @@
 -- One frame more, behind others.
 use Rattle.std.specs.Prelude.{◌≡◌, ℕ, ◌+◌, Bool, true, false, List, ◌++◌, drop}
 use Rattle.input_log.specs.declared.item.LogItem.{LogItem}
-use Rattle.session_store.specs.Session.{AreInputs, IsHeadAlone, MayFollow, items_of, payload_of}
+use Rattle.session_store.specs.Session.{AreInputs, IsHeadAlone, IsLog, MayFollow, items_of, payload_of}
 use Rattle.session_store.specs.Recovery.{HasFrames, place_behind}
 
 -- the items may stand in the first frame, or in a later one
@@ -19,3 +19,7 @@ pub record SoFar (bytes : List ℕ) (items : List LogItem) (at : ℕ) : Type 0 w
   pub has : HasFrames bytes frames (drop at bytes)
   pub items_are : items ≡ items_of frames
   pub place : at + 1 ≡ place_behind frames
+
+-- the items are those of frames that read, whatever the disk tells
+abbrev pub AreOfFrames : List LogItem → Type 0
+AreOfFrames items = (frames : List (List LogItem)) × IsLog frames × (items ≡ items_of frames)

@@ -1,7 +1,7 @@
 -- What `recover` answers.
 use Rattle.std.specs.Prelude.{ℕ, List, Result, Ok, Err}
 use Rattle.session_store.specs.Recovery.{Recovers, NoHeader, Broken, Whole}
-use Rattle.session_store.specs.declared.recovery.Session.{Session}
+use Rattle.session_store.specs.Session.{SessionState}
 use Rattle.session_store.specs.declared.recovery.RecoverFault.{RecoverFault}
 use Rattle.session_store.specs.declared.recovery.RecoverFault.TheVariants.{NotASession, Damaged, DiskFault, NoMemory}
 
@@ -13,6 +13,6 @@ Refuses DiskFault bytes = Unit {0}
 Refuses NoMemory bytes = Unit {0}
 
 -- an answer is what recovery finds in the bytes that the disk holds
-abbrev pub Tells : Result Session RecoverFault → List ℕ → Type 0
+abbrev pub Tells : Result SessionState RecoverFault → List ℕ → Type 0
 Tells (Ok session) bytes = Recovers bytes (Whole session.items session.end)
 Tells (Err fault) bytes = Refuses fault bytes

@@ -64,7 +64,7 @@ fn a_fault_leaves_a_session(rt: HostRuntime) -> Result<(), Fail> {
         assert_eq!(rt; fault, Err(StoreFault::DiskFault));
         assert_eq!(rt; disk.moment(), call);
         let frames = match recover(alloc, &mut disk) {
-            Ok(session) => session.end,
+            Ok(session) => session.end(),
             Err(_) => 0,
         };
         let want = match call {

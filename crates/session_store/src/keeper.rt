@@ -15,8 +15,11 @@ use std::alloc::Global;
 use std::marker::Model;
 use thiserror::Error;
 
-/// The most bytes that a session has.
-const LIMIT: u64 = 1 << 32;
+/// The most bytes of a session.
+pub const SESSION_LIMIT: u64 = 4_294_967_296;
+
+/// A disk counts moments up to this, 2^64 - 1. What a call adds to a moment is said where no count comes to it.
+pub const MOMENT_END: u64 = 18_446_744_073_709_551_615;
 
 /// A session that is being written, frame by frame.
 #[derive(Debug, Drop)]
@@ -32,12 +35,13 @@ pub struct Store {
 impl Model for Store {
     ghost use Rattle.std.specs.Prelude.{◌≡◌, ◌+◌, ◌-◌, ◌*◌, ◌≤◌, vec_capacity};
     ghost use Rattle.session_store.specs.Keeping.{StoreState};
+    ghost use Rattle.session_store.specs.declared.keeper.TheConstants.{SESSION_LIMIT};
 
     ghost Value = { StoreState };
 
     ghost view = { λ s. record { place = s.place; frames = s.frames; inputs = s.inputs; moments = s.moments; spare = vec_capacity s.buffer - 5; stopped = s.stopped } };
 
-    ghost invariant = { λ s. (9 ≤ s.place) × (s.place ≤ 4294967296) × (5 * s.frames ≤ s.place) × (s.inputs ≤ s.place) × (s.moments ≤ 2 + 4 * s.frames) };
+    ghost invariant = { λ s. (9 ≤ s.place) × (s.place ≤ SESSION_LIMIT) × (5 * s.frames ≤ s.place) × (s.inputs ≤ s.place) × (s.moments ≤ 2 + 4 * s.frames) };
 }
 
 /// What a commit answers.
@@ -87,8 +91,8 @@ fn write_frame<D: Disk>(disk: &mut D, place: u64, frame: &[u8]) -> Result<(), Fa
     requires inside { IfSome (D.held disk.old) (λ held. place ≤ length held) }
     requires behind { 1 ≤ place }
     ensures ok { OnOk result (D.held disk.new ≡ option_map (λ held. over (place - 1) (1 ∷ []) (over place frame.now held)) (D.held disk.old)) }
-    ensures moment { OnOk result (D.moment disk.old < 18446744073709551600 → D.moment disk.new ≡ D.moment disk.old + 4) }
-    ensures err_moment { OnErr result (D.moment disk.old < 18446744073709551600 → (D.moment disk.old < D.moment disk.new) × (D.moment disk.new ≤ D.moment disk.old + 4)) }
+    ensures moment { OnOk result (D.moment disk.old + 4 < MOMENT_END → D.moment disk.new ≡ D.moment disk.old + 4) }
+    ensures err_moment { OnErr result (D.moment disk.old + 4 < MOMENT_END → (D.moment disk.old < D.moment disk.new) × (D.moment disk.new ≤ D.moment disk.old + 4)) }
     ensures left { OnErr result (Lifted (Leaves place frame.now) (D.held disk.old) (D.held disk.new)) }
     ensures cause { HasCause (D.faults disk.old) (D.faults disk.new) result }
 {
@@ -105,11 +109,11 @@ impl Store {
         ensures file { OnOk result (D.held disk.new ≡ option_map (λ _. file []) (D.held disk.old)) }
         ensures inside { IfOk result (λ store. IfSome (D.held disk.new) (λ held. store.place ≤ length held)) }
         ensures empty { OnOk result (IfSome (D.held disk.old) (λ held. held ≡ [])) }
-        ensures moment { OnOk result (D.moment disk.old < 18446744073709551600 → D.moment disk.new ≡ D.moment disk.old + 2) }
+        ensures moment { OnOk result (D.moment disk.old + 2 < MOMENT_END → D.moment disk.new ≡ D.moment disk.old + 2) }
 
         ensures not_empty { IsErrOf result StoreFault.NotEmpty → IfSome (D.held disk.old) (λ held. 0 < length held) × (D.held disk.new ≡ D.held disk.old) × (D.moment disk.new ≡ D.moment disk.old) }
         ensures fault { IsErrOf result StoreFault.DiskFault → Rose (D.faults disk.old) (D.faults disk.new) }
-        ensures fault_moment { IsErrOf result StoreFault.DiskFault → D.moment disk.old < 18446744073709551600 → (D.moment disk.old ≤ D.moment disk.new) × (D.moment disk.new ≤ D.moment disk.old + 2) }
+        ensures fault_moment { IsErrOf result StoreFault.DiskFault → D.moment disk.old + 2 < MOMENT_END → (D.moment disk.old ≤ D.moment disk.new) × (D.moment disk.new ≤ D.moment disk.old + 2) }
         ensures only { OnErr result ((IsErrOf result StoreFault.Full → ⊥) × (IsErrOf result StoreFault.Stopped → ⊥) × (IsErrOf result StoreFault.NoMemory → ⊥)) }
         ensures later { D.faults disk.old ≤ D.faults disk.new }
     {
@@ -179,13 +183,15 @@ impl Store {
 
     /// Makes room, so that the commit of a payload of that many bytes takes no memory.
     pub fn reserve(&mut self, bytes: usize) -> Result<(), NoMemory>
-        requires { bytes < 2 ^ 62 }
         ensures room { OnOk result (bytes ≤ self.new.spare) }
         ensures grows { self.old.spare ≤ self.new.spare }
         ensures same { (self.new.place ≡ self.old.place) × (self.new.frames ≡ self.old.frames) × (self.new.inputs ≡ self.old.inputs) × (self.new.moments ≡ self.old.moments) × (self.new.stopped ≡ self.old.stopped) }
     {
+        let Some(size) = bytes.checked_add(5) else {
+            return Err(NoMemory);
+        };
         self.buffer.clear();
-        self.buffer.reserve(bytes + 5)?;
+        self.buffer.reserve(size)?;
         Ok(())
     }
 
@@ -205,15 +211,15 @@ impl Store {
             → D.held disk.new ≡ Some (session (frames ++ items ∷ []) 0 (drop (5 + length payload.now) rest))) }
         ensures still_inside { OnOk result (IfSome (D.held disk.new) (λ held. self.new.place ≤ length held)) }
         ensures untold { OnOk result (D.held disk.old ≡ None → D.held disk.new ≡ None) }
-        ensures moment { OnOk result (D.moment disk.old < 18446744073709551600 → D.moment disk.new ≡ D.moment disk.old + 4) }
+        ensures moment { OnOk result (D.moment disk.old + 4 < MOMENT_END → D.moment disk.new ≡ D.moment disk.old + 4) }
         ensures room { self.old.spare ≤ self.new.spare }
 
-        ensures full { IsErrOf result StoreFault.Full → 4294967296 < self.old.place + 5 + length payload.now }
-        ensures fits { 4294967296 < self.old.place + 5 + length payload.now → self.old.stopped ≡ false → IsErrOf result StoreFault.Full }
+        ensures full { IsErrOf result StoreFault.Full → SESSION_LIMIT < self.old.place + 5 + length payload.now }
+        ensures fits { SESSION_LIMIT < self.old.place + 5 + length payload.now → self.old.stopped ≡ false → IsErrOf result StoreFault.Full }
         ensures stopped { IsErrOf result StoreFault.Stopped → self.old.stopped ≡ true }
         ensures stays_stopped { self.old.stopped ≡ true → IsErrOf result StoreFault.Stopped }
         ensures fault { IsErrOf result StoreFault.DiskFault → Rose (D.faults disk.old) (D.faults disk.new) × (self.new.stopped ≡ true) }
-        ensures fault_moment { IsErrOf result StoreFault.DiskFault → D.moment disk.old < 18446744073709551600 → (D.moment disk.old < D.moment disk.new) × (D.moment disk.new ≤ D.moment disk.old + 4) }
+        ensures fault_moment { IsErrOf result StoreFault.DiskFault → D.moment disk.old + 4 < MOMENT_END → (D.moment disk.old < D.moment disk.new) × (D.moment disk.new ≤ D.moment disk.old + 4) }
         ensures left { IsErrOf result StoreFault.DiskFault → (frames : List (List LogItem)) (items : List LogItem) (gate : ℕ) (rest : List ℕ) → gate ≢ 1 → self.old.place ≡ place_behind frames → payload.now ≡ payload_of items
             → D.held disk.old ≡ Some (session frames gate rest) → IfSome (D.held disk.new) (IsEither frames items) }
         ensures memory { IsErrOf result StoreFault.NoMemory → self.old.spare < length payload.now }
@@ -226,7 +232,7 @@ impl Store {
             return Err(StoreFault::Stopped);
         }
         let size = payload.len() as u64;
-        if size > LIMIT - 5 || self.place > LIMIT - 5 - size {
+        if size > SESSION_LIMIT - 5 || self.place > SESSION_LIMIT - 5 - size {
             return Err(StoreFault::Full);
         }
         if fill(&mut self.buffer, payload).is_err() {

@@ -9,6 +9,6 @@ mod recovery;
 #[cfg(test)]
 mod tests;
 
-pub use keeper::{Ack, Store, StoreFault};
+pub use keeper::{Ack, MOMENT_END, SESSION_LIMIT, Store, StoreFault};
 pub use laws::{logs_are_recovered, recovery_is_one};
 pub use recovery::{RecoverFault, Session, recover};

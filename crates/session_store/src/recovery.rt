@@ -1,7 +1,7 @@
 // Recovers the items of a session file, whatever a stop made of its end.
 ghost use Rattle.std.specs.Prelude.{◌≡◌, ◌≢◌, ◌↔◌, ℕ, ◌<◌, ◌≤◌, List, [], ◌++◌, IfOk, IfSome, IsErrOf, IsTrue, MatchBool, MatchOption, ◌∷◌};
 ghost use Rattle.mug_outside.specs.Cause.{Rose};
-ghost use Rattle.session_store.specs.Session.{AreItems, HasHeader, IsLog, MayFollow, is_head, items_of, magic, payload_of};
+ghost use Rattle.session_store.specs.Session.{AreItems, HasHeader, IsLog, KeepsRules, MayFollow, items_of, magic, payload_of};
 ghost use Rattle.session_store.specs.Steps.{Follows, MayStand};
 ghost use Rattle.session_store.specs.Telling.{Tells};
 ghost use Rattle.input_log.specs.declared.item.LogItem.{LogItem};
@@ -11,13 +11,41 @@ use log_frames::{FrameFault, FrameReader, Next};
 use mug_disk::Disk;
 use mug_text::{Listed, NoMemory};
 use std::alloc::Global;
+use std::marker::Model;
 use thiserror::Error;
 
 /// The items of a session file, and the offset just behind its last open, whole frame.
 #[derive(Debug, Drop)]
 pub struct Session {
-    pub items: Listed<LogItem>,
-    pub end: u64,
+    items: Listed<LogItem>,
+    end: u64,
+}
+
+impl Model for Session {
+    ghost use Rattle.session_store.specs.Session.{KeepsRules, SessionState};
+
+    ghost Value = { SessionState };
+
+    ghost view = { λ s. record { items = s.items; end = s.end } };
+
+    ghost invariant = { λ s. KeepsRules s.items };
+}
+
+impl Session {
+    /// The items in a row.
+    pub fn items(&self) -> &[LogItem]
+        ensures items { result.now ≡ self.now.items }
+        ensures rules { KeepsRules result.now }
+    {
+        self.items.as_slice()
+    }
+
+    /// The offset just behind the last open, whole frame.
+    pub fn end(&self) -> u64
+        ensures { result ≡ self.now.end }
+    {
+        self.end
+    }
 }
 
 /// Why a session was not recovered.
@@ -45,9 +73,7 @@ fn read_items(alloc: Global, payload: &[u8]) -> Result<Option<Vec<LogItem>>, NoM
     while at < payload.len() {
         match decode(alloc, &payload[at..])? {
             Some((item, len)) => {
-                if items.push(item).is_err() {
-                    return Err(NoMemory);
-                }
+                items.push(item)?;
                 at += len;
             }
             None => return Ok(None),
@@ -56,32 +82,17 @@ fn read_items(alloc: Global, payload: &[u8]) -> Result<Option<Vec<LogItem>>, NoM
     Ok(Some(items))
 }
 
-fn is_head(item: &LogItem) -> bool
-    ensures { result ≡ is_head item.now }
-{
-    match item {
-        LogItem::Head {
-            base: _,
-            budget: _,
-            page: _,
-        } => true,
-        LogItem::Load { t: _ } => false,
-        LogItem::Now { v: _ } => false,
-        LogItem::Rand { w: _ } => false,
-    }
-}
-
 // Whether the items may stand in the first frame, or in a later one.
 fn may_stand(first: bool, items: &[LogItem]) -> bool
     ensures { IsTrue result ↔ MayStand first items.now }
 {
     if first {
         match items {
-            [head] => is_head(head),
+            [head] => head.is_head(),
             _ => false,
         }
     } else {
-        !items.is_empty() && items.iter().all(|item| !is_head(item))
+        !items.is_empty() && items.iter().all(|item| !item.is_head())
     }
 }
 
@@ -97,9 +108,7 @@ fn read_frame(alloc: Global, payload: &[u8], items: &mut Vec<LogItem>) -> Result
     if !may_stand(first, &group) {
         return Ok(false);
     }
-    if items.append(&mut group).is_err() {
-        return Err(NoMemory);
-    }
+    items.append(&mut group)?;
     Ok(true)
 }
 

@@ -16,15 +16,15 @@ fn found(alloc: Global, bytes: &[u8]) -> Result<(usize, u64), RecoverFault> {
         return Err(RecoverFault::NoMemory);
     };
     let session = recover(alloc, &mut disk)?;
-    Ok((session.items.as_slice().len(), session.end))
+    Ok((session.items().len(), session.end()))
 }
 
 #[test]
 fn items_are_recovered(rt: HostRuntime) -> Result<(), Fail> {
     let mut disk = MemDisk::holding(rt.alloc(), SESSION)?;
     let session = recover(rt.alloc(), &mut disk)?;
-    assert_eq!(rt; (session.end, disk.moment(), disk.faults()), (73, 0, 0));
-    let items = session.items.as_slice();
+    assert_eq!(rt; (session.end(), disk.moment(), disk.faults()), (73, 0, 0));
+    let items = session.items();
     match items {
         [
             LogItem::Head { base, budget, page },
@@ -140,7 +140,7 @@ fn each_failed_call_is_a_fault(rt: HostRuntime) -> Result<(), Fail> {
         let bytes = SESSION.to_vec(rt.alloc())?;
         let reads = Failing::listed(rt.alloc(), &[call])?;
         let mut disk = MemDisk::with(bytes, Failing::none(rt.alloc()), reads);
-        let end = recover(rt.alloc(), &mut disk).map(|session| session.end);
+        let end = recover(rt.alloc(), &mut disk).map(|session| session.end());
         if call < 10 {
             assert_eq!(rt;
                 (end, disk.faults()),

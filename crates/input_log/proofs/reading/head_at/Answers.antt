@@ -3,7 +3,7 @@ use Rattle.mug_text.specs.Text.{utf8_of}
 use Rattle.input_log.specs.Items.{head_parts}
 use Rattle.input_log.proofs.Heads.{head_takes, joined, no_budget, no_page, no_range, not_utf8}
 use Rattle.input_log.proofs.reading.head_at.Goals as goal
-use Rattle.input_log.proofs.reading.head_at.Goals.{then-budget-lt-BUDGET_LEAST-via-then-budget-lt-BUDGET_LEAST, then-budget-lt-BUDGET_LEAST-via-else-budget-lt-BUDGET_LEAST+then-budget-gt-BUDGET_LIMIT, then-budget-lt-BUDGET_LEAST-via-else-budget-lt-BUDGET_LEAST+else-budget-gt-BUDGET_LIMIT+then-page-gt-PAGE_LIMIT}
+use Rattle.input_log.proofs.reading.head_at.Goals.{then-budget-lt-BUDGET_LEAST-via-then-budget-lt-BUDGET_LEAST, then-budget-lt-BUDGET_LEAST-via-else-budget-lt-BUDGET_LEAST+then-budget-gt-STEPS_LIMIT, then-budget-lt-BUDGET_LEAST-via-else-budget-lt-BUDGET_LEAST+else-budget-gt-STEPS_LIMIT+then-page-gt-PAGE_LIMIT}
 
 pub returns-in_default-long_at : goal.returns-in_default-long_at
 returns-in_default-long_at c =
@@ -19,8 +19,8 @@ returns-then-budget-lt-BUDGET_LEAST c =
     no_range c.args.bytes.now c.in-Some.base.now c.in-Some-sized_at.page.now c.in-Some-sized_at.field-0-1.now c.in-Some-long_at.budget c.in-Some.ensures.0 c.in-Some-long_at.ensures.0 c.in-Some-sized_at.ensures.0 is (λ least most short.
     elim c.then-budget-lt-BUDGET_LEAST.branch [
       | then-budget-lt-BUDGET_LEAST-via-then-budget-lt-BUDGET_LEAST w ↦ omega arith
-      | then-budget-lt-BUDGET_LEAST-via-else-budget-lt-BUDGET_LEAST+then-budget-gt-BUDGET_LIMIT w ↦ omega arith
-      | then-budget-lt-BUDGET_LEAST-via-else-budget-lt-BUDGET_LEAST+else-budget-gt-BUDGET_LIMIT+then-page-gt-PAGE_LIMIT w ↦ omega arith
+      | then-budget-lt-BUDGET_LEAST-via-else-budget-lt-BUDGET_LEAST+then-budget-gt-STEPS_LIMIT w ↦ omega arith
+      | then-budget-lt-BUDGET_LEAST-via-else-budget-lt-BUDGET_LEAST+else-budget-gt-STEPS_LIMIT+then-page-gt-PAGE_LIMIT w ↦ omega arith
     ])
 
 pub returns-in-Err-NotUtf8 : goal.returns-in-Err-NotUtf8
