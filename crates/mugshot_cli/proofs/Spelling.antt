@@ -1,9 +1,9 @@
 -- Words, and the commands that they spell.
-use Rattle.std.proofs.Common.{◌≡◌, inl, inr, ℕ, ◌-◌, ◌<◌, ◌≤◌, ◌^◌, List, [], ◌∷◌, length, take, drop, get_or, map, refl, sym, ◌∙◌, ap, subst, arith, decimal, codes}
+use Rattle.std.proofs.Common.{◌≡◌, inl, inr, ℕ, ◌-◌, ◌<◌, ◌≤◌, List, [], ◌∷◌, length, take, drop, get_or, map, refl, sym, ◌∙◌, ap, subst, arith, decimal, codes}
 use Rattle.std.proofs.lemmas.Fmt.{decimal_injective}
 use Rattle.std.proofs.lemmas.List.{take_all}
+use Rattle.input_log.specs.declared.item.TheConstants.{STEPS_LIMIT}
 use Rattle.mugshot_cli.specs.Command.{AreFiles, AreSteps, HasFiles, Spells}
-use Rattle.mugshot_cli.specs.Top.{Does}
 use Rattle.mugshot_cli.specs.declared.command.Command.{Command}
 use Rattle.mugshot_cli.specs.declared.command.Command.TheVariants as command
 
@@ -17,7 +17,7 @@ one_budget words m n (inr (some, low, high)) (inr (some', low', high')) =
     let same : decimal m ≡ decimal n = cc in
     decimal_injective m n (omega arith) (omega arith) same
 
-same_files : (words : List (List ℕ)) (p q a b s t : List ℕ) (m n : ℕ) → AreFiles words p a s m → AreFiles words q b t n → m ≡ n
+pub same_files : (words : List (List ℕ)) (p q a b s t : List ℕ) (m n : ℕ) → AreFiles words p a s m → AreFiles words q b t n → m ≡ n
 same_files words p q a b s t m n one other =
     let e : p ∷ a ∷ s ∷ one.option ≡ q ∷ b ∷ t ∷ other.option = sym one.is ∙ other.is in
     let same : one.option ≡ other.option = cc in
@@ -36,14 +36,14 @@ behind_three (x ∷ y ∷ z ∷ xs) = take_all (length (x ∷ y ∷ z ∷ xs) - 
 
 -- words of an option and a budget
 pub budget_there : {A : Type 0} (f : A → List ℕ) (xs : List A) (option spelled : A) (n : ℕ) → 2 ≤ length xs → length xs < 3 → option ≡ get_or xs 0 option → spelled ≡ get_or xs 1 spelled
-    → f option ≡ codes "--steps" → f spelled ≡ decimal n → (1 ≤ n) × (n ≤ 1000000000) → AreSteps (map f xs) n
+    → f option ≡ codes "--steps" → f spelled ≡ decimal n → (1 ≤ n) × (n ≤ STEPS_LIMIT) → AreSteps (map f xs) n
 budget_there f [] option spelled n least below one two is_option is_n fits = absurd (omega arith)
 budget_there f (x ∷ []) option spelled n least below one two is_option is_n fits = absurd (omega arith)
 budget_there f (x ∷ y ∷ []) option spelled n least below one two is_option is_n fits = inr ((λ i. (ap f (sym one) ∙ is_option) i ∷ (ap f (sym two) ∙ is_n) i ∷ []), fits.0, fits.1)
 budget_there f (x ∷ y ∷ z ∷ xs) option spelled n least below one two is_option is_n fits = absurd (omega arith)
 
 -- numbers that one word spells
-pub one_number : (word : List ℕ) (m n : ℕ) → m < 2 ^ 53 → n ≤ 1000000000 → word ≡ decimal m → word ≡ decimal n → m ≡ n
+pub one_number : (word : List ℕ) (m n : ℕ) → m ≤ STEPS_LIMIT → n ≤ STEPS_LIMIT → word ≡ decimal m → word ≡ decimal n → m ≡ n
 one_number word m n small fits spells_m spells_n = decimal_injective m n (omega arith) (omega arith) (sym spells_m ∙ spells_n)
 
 -- three words whose further ones give no budget name no files
@@ -69,22 +69,10 @@ no_capture f xs tail (command.Capture page arrivals session steps) first is name
     let rest : map f tail ≡ files = cc in
     none (command.Capture page arrivals session steps) (subst (λ (w : List (List ℕ)). AreFiles w page arrivals session steps) (sym rest) are)
 
--- what holds by the budget that was read holds by that of every command that the words spell
-pub by_budget : (words : List (List ℕ)) (page arrivals session : List ℕ) (steps : ℕ) (c : Command) (listed replayed : Type 0) (captured : ℕ → Type 0) → Spells words (command.Capture page arrivals session steps) → Spells words c
-    → captured steps → Does c listed replayed captured
-by_budget words page arrivals session steps (command.List other) listed replayed captured (files, same, are) spells did =
-    let e : codes "capture" ∷ files ≡ codes "list" ∷ other ∷ [] = sym same ∙ spells.0 in absurd (cc)
-by_budget words page arrivals session steps (command.Replay other) listed replayed captured (files, same, are) spells did =
-    let e : codes "capture" ∷ files ≡ codes "replay" ∷ other ∷ [] = sym same ∙ spells.0 in absurd (cc)
-by_budget words page arrivals session steps (command.Capture p a s n) listed replayed captured (files, same, are) (files', same', are') did =
-    let e : codes "capture" ∷ files ≡ codes "capture" ∷ files' = sym same ∙ same' in
-    let one : files ≡ files' = cc in
-    subst captured (same_files files' page p arrivals a session s steps n (subst (λ (w : List (List ℕ)). AreFiles w page arrivals session steps) one are) are') did
-
 -- a budget that was read is in its range
-pub budget_fits : (words : List (List ℕ)) (page arrivals session : List ℕ) (steps : ℕ) → Spells words (command.Capture page arrivals session steps) → (1 ≤ steps) × (steps ≤ 1000000000)
+pub budget_fits : (words : List (List ℕ)) (page arrivals session : List ℕ) (steps : ℕ) → Spells words (command.Capture page arrivals session steps) → (1 ≤ steps) × (steps ≤ STEPS_LIMIT)
 budget_fits words page arrivals session steps (files, same, are) = of_steps are.option are.steps_are
   where
-    of_steps : (option : List (List ℕ)) → AreSteps option steps → (1 ≤ steps) × (steps ≤ 1000000000)
+    of_steps : (option : List (List ℕ)) → AreSteps option steps → (1 ≤ steps) × (steps ≤ STEPS_LIMIT)
     of_steps option (inl (none, is)) = (omega arith, omega arith)
     of_steps option (inr (some, low, high)) = (low, high)

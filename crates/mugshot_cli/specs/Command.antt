@@ -1,5 +1,6 @@
 -- The words of a command line, without the program's name.
 use Rattle.std.specs.Prelude.{◌≡◌, ◌≢◌, ◌⊎◌, ℕ, ◌≤◌, List, [], ◌∷◌, ◌++◌, codes, decimal}
+use Rattle.input_log.specs.declared.item.TheConstants.{STEPS_LIMIT}
 use Rattle.mugshot_cli.specs.declared.command.Command.{Command}
 use Rattle.mugshot_cli.specs.declared.command.Command.TheVariants as command
 
@@ -8,9 +9,9 @@ pub record IsFileName (word : List ℕ) : Type 0 where
   pub nonempty : word ≢ []
   pub no_option : (rest : List ℕ) → word ≢ codes "--" ++ rest
 
--- the words that give a budget: none, and it is 10^7, or an option and a number from 1 to 10^9 in decimal digits
+-- the words that give a budget: none, and it is 10^7, or an option and a number from 1 to the limit in decimal digits
 abbrev pub AreSteps : List (List ℕ) → ℕ → Type 0
-AreSteps words n = ((words ≡ []) × (n ≡ 10000000)) ⊎ ((words ≡ codes "--steps" ∷ decimal n ∷ []) × (1 ≤ n) × (n ≤ 1000000000))
+AreSteps words n = ((words ≡ []) × (n ≡ 10000000)) ⊎ ((words ≡ codes "--steps" ∷ decimal n ∷ []) × (1 ≤ n) × (n ≤ STEPS_LIMIT))
 
 -- the words that name the files of a capture, and then give its budget
 pub record AreFiles (words : List (List ℕ)) (page arrivals session : List ℕ) (steps : ℕ) : Type 0 where

@@ -1,13 +1,31 @@
 -- What a command came to: its status, and the line that a refusal writes.
-use Rattle.std.specs.Prelude.{◌≡◌, ℕ, List, [], ◌++◌, codes, decimal, Option}
+use Rattle.std.specs.Prelude.{◌≡◌, ℕ, List, [], ◌++◌, codes, decimal}
 use Rattle.mug_outside.specs.Told.{behind, TookPart}
 use Rattle.mug_outside.specs.Cause.{Rose}
 use Rattle.arrival_file.specs.declared.arrival.ArrivalKind.{ArrivalKind}
 use Rattle.arrival_file.specs.declared.arrival.ArrivalKind.TheVariants as kind
-use Rattle.mugshot_cli.specs.declared.end.Want.{Want}
-use Rattle.mugshot_cli.specs.declared.end.Want.TheVariants as want
-use Rattle.mugshot_cli.specs.declared.end.Word.{Word}
-use Rattle.mugshot_cli.specs.declared.end.Word.TheVariants as word
+use Rattle.mugshot_cli.specs.declared.thin_page.end.Want.{Want}
+use Rattle.mugshot_cli.specs.declared.thin_page.end.Want.TheVariants as want
+use Rattle.input_log.specs.declared.item.Word.{Word}
+use Rattle.input_log.specs.declared.item.Word.TheVariants as word
+use Rattle.capture_engine.specs.declared.recorder.CaptureFault.{CaptureFault}
+use Rattle.capture_engine.specs.declared.recorder.CaptureFault.TheVariants as fault
+use Rattle.session_store.specs.declared.keeper.StoreFault.TheVariants as store_fault
+use Rattle.mugshot_cli.specs.Outside.{Stream}
+use Rattle.mugshot_cli.specs.declared.capturing.ArrivalsRefusal.{ArrivalsRefusal}
+use Rattle.mugshot_cli.specs.declared.capturing.ArrivalsRefusal.TheVariants as file
+use Rattle.mugshot_cli.specs.declared.capturing.CaptureOutcome.{CaptureOutcome}
+use Rattle.mugshot_cli.specs.declared.capturing.CaptureOutcome.TheVariants as capture
+use Rattle.mugshot_cli.specs.declared.capturing.PageRefusal.{PageRefusal}
+use Rattle.mugshot_cli.specs.declared.capturing.PageRefusal.TheVariants as page
+use Rattle.mugshot_cli.specs.declared.listing.ListOutcome.{ListOutcome}
+use Rattle.mugshot_cli.specs.declared.listing.ListOutcome.TheVariants as list
+use Rattle.mugshot_cli.specs.declared.replaying.ReplayOutcome.{ReplayOutcome}
+use Rattle.mugshot_cli.specs.declared.replaying.ReplayOutcome.TheVariants as replay
+use Rattle.mugshot_cli.specs.declared.session.SessionRefusal.{SessionRefusal}
+use Rattle.mugshot_cli.specs.declared.session.SessionRefusal.TheVariants as refusal
+use Rattle.mugshot_cli.specs.declared.thin_page.recording.RunOutcome.{RunOutcome}
+use Rattle.mugshot_cli.specs.declared.thin_page.recording.RunOutcome.TheVariants as ran
 use Rattle.mugshot_cli.specs.declared.outcome.Outcome.{Outcome}
 use Rattle.mugshot_cli.specs.declared.outcome.Outcome.TheVariants.{Done, Usage, PageTooLarge, PageNotUtf8, BadArrivals, Budget, NotEmpty, NotASession, Damaged, Diverged, Full, ReadFault, DiskFault, WriteFault, NoMemory, NotBuilt}
 use Rattle.mugshot_cli.specs.declared.outcome.Status.{Status}
@@ -77,28 +95,92 @@ word_text word.Now = codes "now"
 word_text word.Rand = codes "rand"
 
 -- a refusal's line
-abbrev pub refusal : List ℕ → List ℕ
-refusal text = codes "mugshot: " ++ text ++ codes "\n"
+abbrev pub refusal_line : List ℕ → List ℕ
+refusal_line text = codes "mugshot: " ++ text ++ codes "\n"
 
 abbrev pub line_of : Outcome → List ℕ
 line_of Done = []
-line_of Usage = refusal (codes "usage")
-line_of PageTooLarge = refusal (codes "bad page: too large")
-line_of (PageNotUtf8 at) = refusal (codes "bad page: not utf-8 at " ++ decimal at)
-line_of (BadArrivals line kind) = refusal (codes "bad arrivals: line " ++ decimal line ++ codes ": " ++ kind_text kind)
-line_of (Budget steps) = refusal (codes "budget of " ++ decimal steps ++ codes " steps is used up")
-line_of NotEmpty = refusal (codes "session is not empty")
-line_of NotASession = refusal (codes "not a session")
-line_of (Damaged at) = refusal (codes "damaged session at " ++ decimal at)
-line_of (Diverged entry wanted found) = refusal (codes "diverged at record " ++ decimal entry ++ codes ": wanted " ++ want_text wanted ++ codes ", found " ++ word_text found)
-line_of Full = refusal (codes "session is full")
-line_of ReadFault = refusal (codes "read fault")
-line_of NotBuilt = refusal (codes "not built yet")
-line_of DiskFault = refusal (codes "disk fault")
-line_of WriteFault = refusal (codes "write fault")
-line_of NoMemory = refusal (codes "out of memory")
+line_of Usage = refusal_line (codes "usage")
+line_of PageTooLarge = refusal_line (codes "bad page: too large")
+line_of (PageNotUtf8 at) = refusal_line (codes "bad page: not utf-8 at " ++ decimal at)
+line_of (BadArrivals line kind) = refusal_line (codes "bad arrivals: line " ++ decimal line ++ codes ": " ++ kind_text kind)
+line_of (Budget steps) = refusal_line (codes "budget of " ++ decimal steps ++ codes " steps is used up")
+line_of NotEmpty = refusal_line (codes "session is not empty")
+line_of NotASession = refusal_line (codes "not a session")
+line_of (Damaged at) = refusal_line (codes "damaged session at " ++ decimal at)
+line_of (Diverged entry wanted found) = refusal_line (codes "diverged at record " ++ decimal entry ++ codes ": wanted " ++ want_text wanted ++ codes ", found " ++ word_text found)
+line_of Full = refusal_line (codes "session is full")
+line_of ReadFault = refusal_line (codes "read fault")
+line_of NotBuilt = refusal_line (codes "not built yet")
+line_of DiskFault = refusal_line (codes "disk fault")
+line_of WriteFault = refusal_line (codes "write fault")
+line_of NoMemory = refusal_line (codes "out of memory")
 
--- a sink took a part from the front of the line, and all of it where its count of faults didn't rise
-pub record TookLine (line : List ℕ) (taken taken' : Option (List ℕ)) (faults faults' : ℕ) : Type 0 where
-  pub part : TookPart line taken taken'
-  pub whole : (Rose faults faults' → ⊥) → taken' ≡ behind line taken
+-- a stream took a part from the front of the line, and all of it where its count of faults didn't rise
+pub record TookLine (line : List ℕ) (before after : Stream) : Type 0 where
+  pub part : TookPart line before.taken after.taken
+  pub whole : (Rose before.faults after.faults → ⊥) → after.taken ≡ behind line before.taken
+
+-- ---- the outcomes of the commands
+
+-- a session that is not read
+abbrev pub of_refusal : SessionRefusal → Outcome
+of_refusal refusal.NotASession = NotASession
+of_refusal (refusal.Damaged at) = Damaged at
+of_refusal refusal.NotBuilt = NotBuilt
+of_refusal refusal.DiskFault = DiskFault
+of_refusal refusal.NoMemory = NoMemory
+
+abbrev pub of_list : ListOutcome → Outcome
+of_list list.Done = Done
+of_list (list.Refused why) = of_refusal why
+of_list list.WriteFault = WriteFault
+of_list list.NoMemory = NoMemory
+
+abbrev pub of_replay : ReplayOutcome → Outcome
+of_replay replay.Done = Done
+of_replay (replay.Budget steps) = Budget steps
+of_replay (replay.Diverged entry wanted found) = Diverged entry wanted found
+of_replay (replay.Refused why) = of_refusal why
+of_replay replay.Headless = NotASession
+of_replay replay.OtherPage = NotBuilt
+of_replay replay.WriteFault = WriteFault
+of_replay replay.NoMemory = NoMemory
+
+-- a page that is not captured
+abbrev pub of_page : PageRefusal → Outcome
+of_page page.ReadFault = ReadFault
+of_page page.TooLarge = PageTooLarge
+of_page (page.NotUtf8 at) = PageNotUtf8 at
+of_page page.NotBuilt = NotBuilt
+of_page page.NoMemory = NoMemory
+
+-- an arrival file that is not read
+abbrev pub of_file : ArrivalsRefusal → Outcome
+of_file file.ReadFault = ReadFault
+of_file (file.Line line kind) = BadArrivals line kind
+of_file file.NotBuilt = NotBuilt
+of_file file.NoMemory = NoMemory
+
+-- a recording that was halted; a store that is stopped has met a fault of the disk
+abbrev pub of_fault : CaptureFault → Outcome
+of_fault (fault.Store store_fault.NotEmpty) = NotEmpty
+of_fault (fault.Store store_fault.Full) = Full
+of_fault (fault.Store store_fault.DiskFault) = DiskFault
+of_fault (fault.Store store_fault.Stopped) = DiskFault
+of_fault (fault.Store store_fault.NoMemory) = NoMemory
+of_fault fault.WriteFault = WriteFault
+of_fault fault.NoMemory = NoMemory
+
+abbrev pub of_run : RunOutcome → Outcome
+of_run ran.Done = Done
+of_run (ran.Budget steps) = Budget steps
+of_run (ran.Halted why) = of_fault why
+
+abbrev pub of_capture : CaptureOutcome → Outcome
+of_capture capture.NotEmpty = NotEmpty
+of_capture capture.DiskFault = DiskFault
+of_capture capture.NoMemory = NoMemory
+of_capture (capture.Page why) = of_page why
+of_capture (capture.Arrivals why) = of_file why
+of_capture (capture.Ran outcome) = of_run outcome

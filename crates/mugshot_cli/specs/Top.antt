@@ -1,19 +1,87 @@
 -- What the top call does, by the command that the words spell.
-use Rattle.std.specs.Prelude.{◌≡◌, ◌⊎◌, ℕ, List, Option}
+use Rattle.std.specs.Prelude.{◌≡◌, ◌⊎◌, ℕ, List, [], Some}
+use Rattle.mug_outside.specs.Cause.{Rose}
+use Rattle.arrival_file.specs.Format.{AreArrivals}
+use Rattle.arrival_file.specs.declared.arrival.Arrivals.{Arrivals}
+use Rattle.input_log.specs.declared.item.LogItem.{LogItem}
+use Rattle.input_log.specs.declared.item.LogItem.TheVariants.{Head}
+use Rattle.session_store.specs.Recovery.{Recovers, Whole}
+use Rattle.capture_engine.specs.Grouping.{fitting, frames_of}
+use Rattle.capture_engine.specs.Outside.{Shown}
+use Rattle.mugshot_cli.specs.Command.{Spells, SpellsNone}
+use Rattle.mugshot_cli.specs.Capturing.{CaptureDid, IsPage, IsThinPage}
+use Rattle.mugshot_cli.specs.Listing.{ListDid}
+use Rattle.mugshot_cli.specs.Outcome.{of_capture, of_list, of_replay}
+use Rattle.mugshot_cli.specs.Outside.{Outside, Still}
+use Rattle.mugshot_cli.specs.Replaying.{ReplayDid, Replays}
+use Rattle.mugshot_cli.specs.ThinPage.Run.{Run, plain}
+use Rattle.mugshot_cli.specs.declared.capturing.CaptureOutcome.{CaptureOutcome}
 use Rattle.mugshot_cli.specs.declared.command.Command.{Command}
 use Rattle.mugshot_cli.specs.declared.command.Command.TheVariants as command
+use Rattle.mugshot_cli.specs.declared.listing.ListOutcome.{ListOutcome}
 use Rattle.mugshot_cli.specs.declared.outcome.Outcome.{Outcome}
 use Rattle.mugshot_cli.specs.declared.outcome.Outcome.TheVariants.{Usage, NoMemory}
+use Rattle.mugshot_cli.specs.declared.outcome.Status.{Status}
+use Rattle.mugshot_cli.specs.declared.outcome.Status.TheVariants as status
+use Rattle.mugshot_cli.specs.declared.replaying.ReplayOutcome.{ReplayOutcome}
+use Rattle.mugshot_cli.specs.declared.thin_page.end.End.TheVariants as end
+use Rattle.mugshot_cli.specs.declared.thin_page.reading.Statement.{Statement}
 
--- the facts of the command that was given; those of a capture are by its budget
-abbrev pub Does : Command → Type 0 → Type 0 → (ℕ → Type 0) → Type 0
-Does (command.List session) list replay capture = list
-Does (command.Replay session) list replay capture = replay
-Does (command.Capture page arrivals session steps) list replay capture = capture steps
+-- the command did what its outcome says, and this is what it came to
+abbrev pub Did : Command → Outcome → Outside → Outside → Type 0
+Did (command.List session) r before after = (own : ListOutcome) × (r ≡ of_list own) × ListDid own before.shows after.shows
+Did (command.Replay session) r before after = (own : ReplayOutcome) × (r ≡ of_replay own) × ReplayDid own before.shows after.shows
+Did (command.Capture page arrivals session steps) r before after = (own : CaptureOutcome) × (r ≡ of_capture own) × CaptureDid own steps before after
 
--- the words were refused, and disk and `out` are as they were
-pub record DidNothing (r : Outcome) (held held' : Option (List ℕ)) (moment moment' : ℕ) (taken taken' : Option (List ℕ)) : Type 0 where
-  pub refused : (r ≡ Usage) ⊎ (r ≡ NoMemory)
-  pub held_stays : held' ≡ held
-  pub moment_stays : moment' ≡ moment
-  pub taken_stays : taken' ≡ taken
+-- what the words came to: their command did, or nothing was done
+pub record WordsDid (words : List (List ℕ)) (r : Outcome) (before after : Outside) : Type 0 where
+  pub spelled : (c : Command) → Spells words c → Did c r before after
+  pub unspelled : SpellsNone words → ((r ≡ Usage) ⊎ (r ≡ NoMemory)) × Still before.shows after.shows
+
+-- ---- that it answers at all
+
+-- neither the disk's count of faults rose nor the output's
+pub record IsQuiet (before after : Shown) : Type 0 where
+  pub disk : Rose before.disk after.disk → ⊥
+  pub out : Rose before.out after.out → ⊥
+
+-- it is this status, or there was no memory
+abbrev pub IsOrStarved : Status → Status → Type 0
+IsOrStarved answer s = (answer ≡ s) ⊎ (answer ≡ status.NoMemory)
+
+-- `list` of a session that reads is done
+abbrev pub ListCompletes : List (List ℕ) → Status → Shown → Shown → Type 0
+ListCompletes words answer before after =
+    (session bytes : List ℕ) (items : List LogItem) (end : ℕ) → Spells words (command.List session) → before.held ≡ Some bytes → Recovers bytes (Whole items end) → IsQuiet before after
+    → IsOrStarved answer status.Done
+
+-- `replay` of a session with a thin page is done where its run is finished or cut, and over the budget exactly where its run ends so
+pub record AnswersRun (run : Run) (answer : Status) : Type 0 where
+  pub done : (run.end ≡ end.Finished) ⊎ (run.end ≡ end.Cut) → IsOrStarved answer status.Done
+  pub spent : run.end ≡ end.Budget → IsOrStarved answer status.Budget
+
+abbrev pub ReplayCompletes : List (List ℕ) → Status → Shown → Shown → Type 0
+ReplayCompletes words answer before after =
+    (session bytes : List ℕ) (budget : ℕ) (run : Run) → Spells words (command.Replay session) → before.held ≡ Some bytes → Replays bytes budget run → IsQuiet before after → AnswersRun run answer
+
+-- what a capture is given that answers: a thin page, an arrival file that reads, an empty disk, a run that is finished, and frames that fit
+pub record CanCapture (steps : ℕ) (before after : Outside) : Type 0 where
+  pub bytes : List ℕ
+  pub file : List ℕ
+  pub statements : List Statement
+  pub given : Arrivals
+  pub page_is : before.page ≡ Some bytes
+  pub text : IsPage bytes
+  pub page : IsThinPage bytes statements
+  pub file_is : before.arrivals ≡ Some file
+  pub are : AreArrivals file given
+  pub empty : before.shows.held ≡ Some []
+  pub finished : (plain steps statements given.turns).end ≡ end.Finished
+  pub fit : fitting (frames_of (Head given.base steps bytes) (plain steps statements given.turns).inputs) ≡ frames_of (Head given.base steps bytes) (plain steps statements given.turns).inputs
+  pub quiet : IsQuiet before.shows after.shows
+  pub page_quiet : Rose before.page_faults after.page_faults → ⊥
+  pub arrivals_quiet : Rose before.arrivals_faults after.arrivals_faults → ⊥
+
+abbrev pub CaptureCompletes : List (List ℕ) → Status → Outside → Outside → Type 0
+CaptureCompletes words answer before after =
+    (page arrivals session : List ℕ) (steps : ℕ) → Spells words (command.Capture page arrivals session steps) → CanCapture steps before after → IsOrStarved answer status.Done

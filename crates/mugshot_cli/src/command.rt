@@ -1,9 +1,10 @@
 // The words of a command line.
 ghost use Rattle.std.specs.Prelude.{◌≡◌, ◌≢◌, ◌↔◌, ◌≤◌, ℕ, List, [], ◌∷◌, decimal, map, IfOk, IsErrOf, IsTrue, MatchOption, string_bytes};
+ghost use Rattle.input_log.specs.declared.item.TheConstants.{STEPS_LIMIT};
 ghost use Rattle.mugshot_cli.specs.Command.{AreSteps, HasFiles, IsFileName, Spells, SpellsNone};
 
-use crate::thin::number;
-use mug_text::Bytes;
+use input_log::STEPS_LIMIT;
+use mug_text::{Bytes, decimal_below};
 use std::alloc::Global;
 use thiserror::Error;
 
@@ -39,9 +40,6 @@ pub enum UsageFault {
 /// The budget where none is given.
 const STEPS: u64 = 10_000_000;
 
-/// The largest budget.
-const MOST_STEPS: u64 = 1_000_000_000;
-
 fn is_file_name(word: &str) -> bool
     ensures { IsTrue result ↔ IsFileName word.now }
 {
@@ -75,10 +73,10 @@ fn one_file(alloc: Global, words: &[String]) -> Result<Bytes, UsageFault>
 
 // A budget as it is spelled.
 fn budget_of(word: &str) -> Option<u64>
-    ensures { MatchOption result ((n : ℕ) → 1 ≤ n → n ≤ 1000000000 → word.now ≢ decimal n) (λ n. (1 ≤ n) × (n ≤ 1000000000) × (word.now ≡ decimal n)) }
+    ensures { MatchOption result ((n : ℕ) → 1 ≤ n → n ≤ STEPS_LIMIT → word.now ≢ decimal n) (λ n. (1 ≤ n) × (n ≤ STEPS_LIMIT) × (word.now ≡ decimal n)) }
 {
-    let n = number(word.as_bytes())?;
-    if n < 1 || n > MOST_STEPS {
+    let n = decimal_below(word.as_bytes(), STEPS_LIMIT + 1)?;
+    if n < 1 {
         return None;
     }
     Some(n)

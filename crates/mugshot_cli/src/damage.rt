@@ -4,7 +4,7 @@ ghost use Rattle.input_log.specs.Items.{BeginsWith, BeginsWithNone};
 ghost use Rattle.input_log.specs.declared.item.LogItem.{LogItem};
 ghost use Rattle.mug_outside.specs.Cause.{Rose};
 ghost use Rattle.session_store.specs.Recovery.{IsBroken};
-ghost use Rattle.mugshot_cli.specs.Listing.{HasLaterKind, is_later_kind};
+ghost use Rattle.mugshot_cli.specs.Sessions.{HasLaterKind, is_later_kind};
 
 use input_log::decode;
 use log_frames::{FrameFault, FrameReader, Next};

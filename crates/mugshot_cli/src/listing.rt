@@ -1,37 +1,35 @@
 // Lists what a session file has.
-ghost use Rattle.std.specs.Prelude.{◌≡◌};
-ghost use Rattle.mugshot_cli.specs.Listing.{Listed};
+ghost use Rattle.mugshot_cli.specs.Listing.{ListDid};
+ghost use Rattle.capture_engine.specs.Outside.{shown};
 
-use crate::damage::{JudgeFault, is_unbuilt};
-use crate::outcome::Outcome;
-use crate::printing::{PrintFault, print_items};
+use crate::lines::PrintFault;
+use crate::printing::print_items;
+use crate::session::{SessionRefusal, read_session};
 use mug_disk::Disk;
 use mug_outside::Sink;
-use session_store::{RecoverFault, recover};
 use std::alloc::Global;
 
+/// What `list` comes to.
+#[derive(Clone, Copy, Debug, PartialEq, Eq)]
+pub enum ListOutcome {
+    Done,
+    Refused(SessionRefusal),
+    WriteFault,
+    /// While the lines were printed.
+    NoMemory,
+}
+
 /// The whole session is read before anything is printed.
-pub fn list<D: Disk, O: Sink>(alloc: Global, disk: &mut D, out: &mut O) -> Outcome
-    ensures { Listed result (D.held disk.old) (D.held disk.new) (D.moment disk.old) (D.moment disk.new) (O.taken out.old) (O.taken out.new)
-        (D.faults disk.old) (D.faults disk.new) (O.faults out.old) (O.faults out.new) }
+pub fn list<D: Disk, O: Sink>(alloc: Global, disk: &mut D, out: &mut O) -> ListOutcome
+    ensures { ListDid result (shown D.Disk O.Sink disk.old out.old) (shown D.Disk O.Sink disk.new out.new) }
 {
-    let session = match recover(alloc, disk) {
+    let session = match read_session(alloc, disk) {
         Ok(session) => session,
-        Err(RecoverFault::NotASession) => return Outcome::NotASession,
-        Err(RecoverFault::Damaged { at }) => {
-            return match is_unbuilt(alloc, disk, at) {
-                Ok(true) => Outcome::NotBuilt,
-                Ok(false) => Outcome::Damaged { at },
-                Err(JudgeFault::DiskFault) => Outcome::DiskFault,
-                Err(JudgeFault::NoMemory) => Outcome::NoMemory,
-            };
-        }
-        Err(RecoverFault::DiskFault) => return Outcome::DiskFault,
-        Err(RecoverFault::NoMemory) => return Outcome::NoMemory,
+        Err(why) => return ListOutcome::Refused(why),
     };
-    match print_items(alloc, out, session.items.as_slice()) {
-        Ok(()) => Outcome::Done,
-        Err(PrintFault::WriteFault) => Outcome::WriteFault,
-        Err(PrintFault::NoMemory) => Outcome::NoMemory,
+    match print_items(alloc, out, session.items()) {
+        Ok(()) => ListOutcome::Done,
+        Err(PrintFault::WriteFault) => ListOutcome::WriteFault,
+        Err(PrintFault::NoMemory) => ListOutcome::NoMemory,
     }
 }

@@ -4,30 +4,17 @@
 mod capturing;
 mod command;
 mod damage;
-mod end;
-mod laws;
-mod line;
+mod lines;
 mod listing;
-mod moves;
 mod outcome;
-mod page;
-mod plain;
 mod printing;
-mod recorder;
-mod recording;
 mod refusal;
-#[cfg(test)]
-mod replay_tests;
-mod replayed;
 mod replaying;
-mod summary;
+mod session;
 #[cfg(test)]
 mod tests;
-mod thin;
-#[cfg(test)]
-mod thin_tests;
+mod thin_page;
 mod top;
-mod tracing;
 
 use command::{Command, UsageFault, read_words};
 use mug_disk::FileDisk;
@@ -47,9 +34,7 @@ fn words(rt: &HostRuntime) -> Result<Vec<String>, NoMemory> {
     match std::env::args(rt) {
         Ok(all) => {
             for word in all.skip(1) {
-                if words.push(word).is_err() {
-                    return Err(NoMemory);
-                }
+                words.push(word)?;
             }
             Ok(words)
         }

@@ -1,9 +1,17 @@
 // What a command came to.
 ghost use Rattle.std.specs.Prelude.{◌≡◌};
-ghost use Rattle.mugshot_cli.specs.Outcome.{code_of, status_of};
+ghost use Rattle.mugshot_cli.specs.Outcome.{code_of, of_capture, of_fault, of_file, of_list, of_page, of_refusal, of_replay, of_run, status_of};
 
-use crate::end::{Want, Word};
+use crate::capturing::{ArrivalsRefusal, CaptureOutcome, PageRefusal};
+use crate::listing::ListOutcome;
+use crate::replaying::ReplayOutcome;
+use crate::session::SessionRefusal;
+use crate::thin_page::end::Want;
+use crate::thin_page::recording::RunOutcome;
 use arrival_file::ArrivalKind;
+use capture_engine::CaptureFault;
+use input_log::Word;
+use session_store::StoreFault;
 
 /// What a command came to, with what its line says.
 #[derive(Clone, Copy, Debug, PartialEq, Eq)]
@@ -132,5 +140,115 @@ impl Status {
             Status::NoMemory => 30,
             Status::NotBuilt => 40,
         }
+    }
+}
+
+fn of_refusal(why: SessionRefusal) -> Outcome
+    ensures { result ≡ of_refusal why }
+{
+    match why {
+        SessionRefusal::NotASession => Outcome::NotASession,
+        SessionRefusal::Damaged { at } => Outcome::Damaged { at },
+        SessionRefusal::NotBuilt => Outcome::NotBuilt,
+        SessionRefusal::DiskFault => Outcome::DiskFault,
+        SessionRefusal::NoMemory => Outcome::NoMemory,
+    }
+}
+
+/// What `list` came to.
+pub fn of_list(outcome: ListOutcome) -> Outcome
+    ensures { result ≡ of_list outcome }
+{
+    match outcome {
+        ListOutcome::Done => Outcome::Done,
+        ListOutcome::Refused(why) => of_refusal(why),
+        ListOutcome::WriteFault => Outcome::WriteFault,
+        ListOutcome::NoMemory => Outcome::NoMemory,
+    }
+}
+
+/// What `replay` came to.
+pub fn of_replay(outcome: ReplayOutcome) -> Outcome
+    ensures { result ≡ of_replay outcome }
+{
+    match outcome {
+        ReplayOutcome::Done => Outcome::Done,
+        ReplayOutcome::Budget { steps } => Outcome::Budget { steps },
+        ReplayOutcome::Diverged {
+            entry,
+            wanted,
+            found,
+        } => Outcome::Diverged {
+            entry,
+            wanted,
+            found,
+        },
+        ReplayOutcome::Refused(why) => of_refusal(why),
+        ReplayOutcome::Headless => Outcome::NotASession,
+        ReplayOutcome::OtherPage => Outcome::NotBuilt,
+        ReplayOutcome::WriteFault => Outcome::WriteFault,
+        ReplayOutcome::NoMemory => Outcome::NoMemory,
+    }
+}
+
+fn of_page(why: PageRefusal) -> Outcome
+    ensures { result ≡ of_page why }
+{
+    match why {
+        PageRefusal::ReadFault => Outcome::ReadFault,
+        PageRefusal::TooLarge => Outcome::PageTooLarge,
+        PageRefusal::NotUtf8 { at } => Outcome::PageNotUtf8 { at },
+        PageRefusal::NotBuilt => Outcome::NotBuilt,
+        PageRefusal::NoMemory => Outcome::NoMemory,
+    }
+}
+
+fn of_file(why: ArrivalsRefusal) -> Outcome
+    ensures { result ≡ of_file why }
+{
+    match why {
+        ArrivalsRefusal::ReadFault => Outcome::ReadFault,
+        ArrivalsRefusal::Line { line, kind } => Outcome::BadArrivals { line, kind },
+        ArrivalsRefusal::NotBuilt => Outcome::NotBuilt,
+        ArrivalsRefusal::NoMemory => Outcome::NoMemory,
+    }
+}
+
+// A store that is stopped has met a fault of the disk.
+fn of_fault(fault: CaptureFault) -> Outcome
+    ensures { result ≡ of_fault fault }
+{
+    match fault {
+        CaptureFault::Store(StoreFault::NotEmpty) => Outcome::NotEmpty,
+        CaptureFault::Store(StoreFault::Full) => Outcome::Full,
+        CaptureFault::Store(StoreFault::DiskFault) => Outcome::DiskFault,
+        CaptureFault::Store(StoreFault::Stopped) => Outcome::DiskFault,
+        CaptureFault::Store(StoreFault::NoMemory) => Outcome::NoMemory,
+        CaptureFault::WriteFault => Outcome::WriteFault,
+        CaptureFault::NoMemory => Outcome::NoMemory,
+    }
+}
+
+fn of_run(outcome: RunOutcome) -> Outcome
+    ensures { result ≡ of_run outcome }
+{
+    match outcome {
+        RunOutcome::Done => Outcome::Done,
+        RunOutcome::Budget { steps } => Outcome::Budget { steps },
+        RunOutcome::Halted(fault) => of_fault(fault),
+    }
+}
+
+/// What `capture` came to.
+pub fn of_capture(outcome: CaptureOutcome) -> Outcome
+    ensures { result ≡ of_capture outcome }
+{
+    match outcome {
+        CaptureOutcome::NotEmpty => Outcome::NotEmpty,
+        CaptureOutcome::DiskFault => Outcome::DiskFault,
+        CaptureOutcome::NoMemory => Outcome::NoMemory,
+        CaptureOutcome::Page(why) => of_page(why),
+        CaptureOutcome::Arrivals(why) => of_file(why),
+        CaptureOutcome::Ran(outcome) => of_run(outcome),
     }
 }

@@ -1,17 +1,19 @@
 // The line of a refusal, made without memory.
 ghost use Rattle.std.specs.Prelude.{◌≡◌, ◌+◌, ◌≤◌, ◌++◌, length, codes, decimal};
-ghost use Rattle.mugshot_cli.specs.Outcome.{TookLine, kind_text, line_of, refusal, want_text, word_text};
+ghost use Rattle.mugshot_cli.specs.Outside.{stream};
+ghost use Rattle.mugshot_cli.specs.Outcome.{TookLine, kind_text, line_of, refusal_line, want_text, word_text};
 ghost use Rattle.mugshot_cli.specs.declared.outcome.Outcome.{Outcome};
 
-use crate::end::{Want, Word};
-use crate::line::Line;
 use crate::outcome::Outcome;
+use crate::thin_page::end::Want;
 use arrival_file::ArrivalKind;
+use capture_engine::Line;
+use input_log::Word;
 use mug_outside::Sink;
 
 fn plain(text: &[u8]) -> Line
     requires { length text.now ≤ 40 }
-    ensures { result ≡ refusal text.now }
+    ensures { result ≡ refusal_line text.now }
 {
     let mut line = Line::new();
     line.push(b"mugshot: ");
@@ -24,7 +26,7 @@ fn plain(text: &[u8]) -> Line
 fn numbered(before: &[u8], n: u64, after: &[u8]) -> Line
     requires short { length before.now ≤ 40 }
     requires short_after { length after.now ≤ 40 }
-    ensures { result ≡ refusal (before.now ++ decimal n ++ after.now) }
+    ensures { result ≡ refusal_line (before.now ++ decimal n ++ after.now) }
 {
     let mut line = Line::new();
     line.push(b"mugshot: ");
@@ -127,7 +129,7 @@ fn line_for(outcome: Outcome) -> Line
 
 /// Writes the outcome's line; where `err` fails, nothing more is said.
 pub fn say<E: Sink>(err: &mut E, outcome: Outcome)
-    ensures { TookLine (line_of outcome) (E.taken err.old) (E.taken err.new) (E.faults err.old) (E.faults err.new) }
+    ensures { TookLine (line_of outcome) (stream E.Sink err.old) (stream E.Sink err.new) }
 {
     let line = line_for(outcome);
     let _ = line.write(err);

@@ -1,28 +1,25 @@
-use Rattle.std.proofs.Common.{◌≡◌, List, ℕ, IfSome, refl, sym, subst, arith}
-use Rattle.arrival_file.proofs.Bounds.{in_ranges}
-use Rattle.mugshot_cli.proofs.Captured.{base_of, empty_told, from_start, page_refused}
+use Rattle.std.proofs.Common.{refl, arith}
+use Rattle.mugshot_cli.proofs.CaptureOutcome.{base_of, empty_told}
+use Rattle.mugshot_cli.specs.Outside.{outside}
 use Rattle.mugshot_cli.proofs.capturing.capture.Goals as goal
 
-pub returns-in-Err-statements_of : goal.returns-in-Err-statements_of
-returns-in-Err-statements_of g c =
-    page_refused c.in-Err-statements_of.refused c.args.budget _ _ _ _ _ _ _ _ c.as_slice.result.now (record { held = c.in-Ok.ensures.held; moment = c.in-Ok.ensures.moment; taken = refl })
-    (empty_told _ _ c.in-Ok.len refl c.in-Ok.ensures.told c.if-len-ne0.false)
-    (subst (λ (l : List ℕ). IfSome (g.P.Source.left c.args.page.now) (λ b. b ≡ l)) (sym c.as_slice.ensures) c.in-Ok-read_page.ensures.ok.1)
-    c.in-Err-statements_of.ensures.err
-
-pub record-requires-clause-empty : goal.record-requires-clause-empty
-record-requires-clause-empty g c = empty_told _ _ c.in-Ok.len c.in-Ok.ensures.held c.in-Ok.ensures.told c.if-len-ne0.false
+pub returns-in-Err-read_page : goal.returns-in-Err-read_page
+returns-in-Err-read_page g c = (
+  record { held = c.in-Ok-eq0.ensures.held; moment = c.in-Ok-eq0.ensures.moment; taken = refl },
+  empty_told _ _ c.in-Ok-eq0.field-0 refl c.in-Ok-eq0.ensures.told (omega arith),
+  c.in-Err-read_page.ensures.refused (outside g.P.Source g.A.Source g.D.Disk g.O.Sink c.args.page.now c.args.arrivals.now c.args.disk.now c.args.out.now)
+      (outside g.P.Source g.A.Source g.D.Disk g.O.Sink c.read_page.new.page c.args.arrivals.now c.len.new.self c.args.out.now) refl refl refl refl,
+)
 
 pub record-requires-clause-head : goal.record-requires-clause-head
 record-requires-clause-head g c =
-    let read = c.in-Ok-read_file.ensures.bytes in
-    let size = c.in-Ok-read_page.ensures.ok.0 in
-    (base_of c.in-Ok-read_file.given (in_ranges read.0 _ read.1), c.requires.0, c.requires.1, omega arith)
+    (base_of c.in-Ok-read_file.given c.in-Ok-read_file.ensures.ranges, c.requires.least, c.requires.most, omega (arith, c.in-Ok-read_page.ensures.short))
 
 pub record-requires-clause-ranges : goal.record-requires-clause-ranges
-record-requires-clause-ranges g c = let read = c.in-Ok-read_file.ensures.bytes in (in_ranges read.0 _ read.1).turns
+record-requires-clause-ranges g c = c.in-Ok-read_file.ensures.ranges.turns
 
 pub returns : goal.returns
 returns g c =
-    from_start c.record.result c.args.budget _ _ _ _ _ _ _ _ _ _ _ _ _ _ c.in-Ok.ensures.held c.in-Ok.ensures.moment
-    (c.record.ensures (g.P.Source.left c.args.page.now) (g.A.Source.left c.args.arrivals.now) _ _ _ _ _ c.in-Ok.ensures.cause.later c.in-Ok-read_page.ensures.ok.1 c.in-Ok-read_file.ensures.ok)
+    c.record.ensures (outside g.P.Source g.A.Source g.D.Disk g.O.Sink c.args.page.now c.args.arrivals.now c.args.disk.now c.args.out.now)
+    (outside g.P.Source g.A.Source g.D.Disk g.O.Sink c.read_page.new.page c.read_file.new.arrivals c.record.new.disk c.record.new.out)
+    (record { held = c.in-Ok-eq0.ensures.held; moment = c.in-Ok-eq0.ensures.moment; taken = refl; disk_later = c.in-Ok-eq0.ensures.cause.later; out_later = omega arith }) refl c.in-Ok-read_page.ensures.whole c.in-Ok-read_file.ensures.read

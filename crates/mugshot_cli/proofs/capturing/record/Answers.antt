@@ -1,64 +1,40 @@
-use Rattle.std.proofs.Common.{◌≡◌, ◌∙◌, inr, Err, refl, ap, arith, rules}
-use Rattle.mugshot_cli.specs.Run.{plain}
-use Rattle.mugshot_cli.specs.Running.{rest_of}
-use Rattle.mugshot_cli.specs.Recording.{Seen, seen}
-use Rattle.mugshot_cli.proofs.Captured.{did_all, inputs_count, plainly, run_disk, run_full, run_not_begun, run_starved, run_starved_first, run_write}
-use Rattle.mugshot_cli.proofs.Records.{rose_later}
+use Rattle.std.proofs.Common.{◌≡◌, ◌∙◌, IfSome, [], ap, rules, subst}
+use Rattle.capture_engine.specs.Grouping.{grouped}
+use Rattle.mugshot_cli.specs.Capturing.{IsEmpty}
+use Rattle.mugshot_cli.specs.ThinPage.PlainState.{rest_of}
+use Rattle.mugshot_cli.specs.ThinPage.Run.{plain}
+use Rattle.mugshot_cli.specs.declared.thin_page.recording.RunOutcome.TheVariants.{Halted}
+use Rattle.mugshot_cli.proofs.CaptureOutcome.{inputs_count, ran, still_of}
+use Rattle.mugshot_cli.proofs.RecordingEnds.{halt_did, start_did}
 use Rattle.mugshot_cli.proofs.capturing.record.Goals as goal
 
-pub returns-in-Err-DiskFault : goal.returns-in-Err-DiskFault
-returns-in-Err-DiskFault g c = λ page_told arrivals_told p p' a a' faults earlier page_is arrivals_are.
+pub returns-in-Err : goal.returns-in-Err
+returns-in-Err g c = λ before after same now page_is arrivals_are. still_of before.shows _ after.shows same now
+
+pub returns-in-Err-start : goal.returns-in-Err-start
+returns-in-Err-start g c = λ before after same now page_is arrivals_are.
     let turns_is : c.as_slice.result.now ≡ c.args.given.turns = search rules in
     let whole : rest_of c.in-Ok.run' ≡ plain c.args.budget c.args.statements.now c.args.given.turns = c.in-Ok.ensures ∙ ap (plain c.args.budget c.args.statements.now) turns_is in
-    inr (run_not_begun c.args.given (rest_of c.in-Ok.run') whole c.requires.empty page_is c.requires.thin arrivals_are _ (rose_later faults _ _ earlier (c.in-Err-DiskFault.ensures.fault (λ i. Err (c.in-Err-DiskFault.field-0-is i)))) refl
-    (c.in-Err-DiskFault.ensures.fault_moment (λ i. Err (c.in-Err-DiskFault.field-0-is i))))
+    let empty : IsEmpty before.shows = subst (λ o. IfSome o (λ b. b ≡ [])) same.held c.requires.empty in
+    ran before after c.args.given (rest_of c.in-Ok.run') now whole empty page_is c.requires.thin arrivals_are (Halted c.in-Err-start.fault)
+    (start_did c.in-Err-start.fault (rest_of c.in-Ok.run') _ before.shows _ (c.in-Err-start.ensures.halted before.shows (grouped [] (rest_of c.in-Ok.run').inputs) same))
 
-pub returns-in-Err-NoMemory : goal.returns-in-Err-NoMemory
-returns-in-Err-NoMemory g c = λ page_told arrivals_told p p' a a' faults earlier page_is arrivals_are.
+pub returns-in-Err-record_inputs : goal.returns-in-Err-record_inputs
+returns-in-Err-record_inputs g c = λ before after same now page_is arrivals_are.
     let turns_is : c.as_slice.result.now ≡ c.args.given.turns = search rules in
     let whole : rest_of c.in-Ok.run' ≡ plain c.args.budget c.args.statements.now c.args.given.turns = c.in-Ok.ensures ∙ ap (plain c.args.budget c.args.statements.now) turns_is in
-    inr (run_starved_first c.args.given (rest_of c.in-Ok.run') whole c.requires.empty page_is c.requires.thin arrivals_are _ (c.in-Err-NoMemory.ensures.starved (λ i. Err (c.in-Err-NoMemory.field-0-is i))) refl)
+    let empty : IsEmpty before.shows = subst (λ o. IfSome o (λ b. b ≡ [])) same.held c.requires.empty in
+    ran before after c.args.given (rest_of c.in-Ok.run') now whole empty page_is c.requires.thin arrivals_are (Halted c.in-Err-record_inputs.fault)
+    (halt_did c.in-Err-record_inputs.fault (rest_of c.in-Ok.run') _ before.shows _ (c.in-Err-record_inputs.ensures.halts before.shows _ [] (c.in-Ok-start.ensures.started before.shows same)))
 
-pub record_all-requires-clause-inside : goal.record_all-requires-clause-inside
-record_all-requires-clause-inside g c = (c.in-Ok-begin.ensures.ok (seen (g.D.Disk.held c.args.disk.now) (g.D.Disk.moment c.args.disk.now) (g.O.Sink.taken c.args.out.now) (g.D.Disk.faults c.args.disk.now) (g.O.Sink.faults c.args.out.now)) _ _ _ (omega arith) refl).0
-
-pub returns-in-Err-Full-record_all : goal.returns-in-Err-Full-record_all
-returns-in-Err-Full-record_all g c = λ page_told arrivals_told p p' a a' faults earlier page_is arrivals_are.
-    let turns_is : c.as_slice.result.now ≡ c.args.given.turns = search rules in
-    let whole : rest_of c.in-Ok.run' ≡ plain c.args.budget c.args.statements.now c.args.given.turns = c.in-Ok.ensures ∙ ap (plain c.args.budget c.args.statements.now) turns_is in
-    let start : Seen = seen (g.D.Disk.held c.args.disk.now) (g.D.Disk.moment c.args.disk.now) (g.O.Sink.taken c.args.out.now) faults (g.O.Sink.faults c.args.out.now) in
-    run_full c.args.given (rest_of c.in-Ok.run') whole c.requires.empty page_is c.requires.thin arrivals_are _
-    (rw c.in-Err-Full-record_all.field-0-is at (c.in-Err-Full-record_all.ensures.halted start (c.in-Ok-begin.ensures.ok start _ faults _ earlier refl).1))
-
-pub returns-in-Err-DiskFault-record_all : goal.returns-in-Err-DiskFault-record_all
-returns-in-Err-DiskFault-record_all g c = λ page_told arrivals_told p p' a a' faults earlier page_is arrivals_are.
-    let turns_is : c.as_slice.result.now ≡ c.args.given.turns = search rules in
-    let whole : rest_of c.in-Ok.run' ≡ plain c.args.budget c.args.statements.now c.args.given.turns = c.in-Ok.ensures ∙ ap (plain c.args.budget c.args.statements.now) turns_is in
-    let start : Seen = seen (g.D.Disk.held c.args.disk.now) (g.D.Disk.moment c.args.disk.now) (g.O.Sink.taken c.args.out.now) faults (g.O.Sink.faults c.args.out.now) in
-    inr (run_disk c.args.given (rest_of c.in-Ok.run') whole c.requires.empty page_is c.requires.thin arrivals_are _
-    (rw c.in-Err-DiskFault-record_all.field-0-is at (c.in-Err-DiskFault-record_all.ensures.halted start (c.in-Ok-begin.ensures.ok start _ faults _ earlier refl).1)))
-
-pub returns-in-Err-WriteFault : goal.returns-in-Err-WriteFault
-returns-in-Err-WriteFault g c = λ page_told arrivals_told p p' a a' faults earlier page_is arrivals_are.
-    let turns_is : c.as_slice.result.now ≡ c.args.given.turns = search rules in
-    let whole : rest_of c.in-Ok.run' ≡ plain c.args.budget c.args.statements.now c.args.given.turns = c.in-Ok.ensures ∙ ap (plain c.args.budget c.args.statements.now) turns_is in
-    let start : Seen = seen (g.D.Disk.held c.args.disk.now) (g.D.Disk.moment c.args.disk.now) (g.O.Sink.taken c.args.out.now) faults (g.O.Sink.faults c.args.out.now) in
-    run_write c.args.given (rest_of c.in-Ok.run') whole c.requires.empty page_is c.requires.thin arrivals_are _
-    (rw c.in-Err-WriteFault.field-0-is at (c.in-Err-WriteFault.ensures.halted start (c.in-Ok-begin.ensures.ok start _ faults _ earlier refl).1))
-
-pub returns-in-Err-NoMemory-record_all : goal.returns-in-Err-NoMemory-record_all
-returns-in-Err-NoMemory-record_all g c = λ page_told arrivals_told p p' a a' faults earlier page_is arrivals_are.
-    let turns_is : c.as_slice.result.now ≡ c.args.given.turns = search rules in
-    let whole : rest_of c.in-Ok.run' ≡ plain c.args.budget c.args.statements.now c.args.given.turns = c.in-Ok.ensures ∙ ap (plain c.args.budget c.args.statements.now) turns_is in
-    let start : Seen = seen (g.D.Disk.held c.args.disk.now) (g.D.Disk.moment c.args.disk.now) (g.O.Sink.taken c.args.out.now) faults (g.O.Sink.faults c.args.out.now) in
-    inr (run_starved c.args.given (rest_of c.in-Ok.run') whole c.requires.empty page_is c.requires.thin arrivals_are _
-    (rw c.in-Err-NoMemory-record_all.field-0-is at (c.in-Err-NoMemory-record_all.ensures.halted start (c.in-Ok-begin.ensures.ok start _ faults _ earlier refl).1)))
+pub finish-requires : goal.finish-requires
+finish-requires g c = (rest_of c.in-Ok.run', c.in-Ok-record_inputs.ensures.ended)
 
 pub returns : goal.returns
-returns g c = λ page_told arrivals_told p p' a a' faults earlier page_is arrivals_are.
+returns g c = λ before after same now page_is arrivals_are.
     let turns_is : c.as_slice.result.now ≡ c.args.given.turns = search rules in
     let whole : rest_of c.in-Ok.run' ≡ plain c.args.budget c.args.statements.now c.args.given.turns = c.in-Ok.ensures ∙ ap (plain c.args.budget c.args.statements.now) turns_is in
-    let start : Seen = seen (g.D.Disk.held c.args.disk.now) (g.D.Disk.moment c.args.disk.now) (g.O.Sink.taken c.args.out.now) faults (g.O.Sink.faults c.args.out.now) in
-    did_all page_told arrivals_told start c.args.page c.args.statements.now c.args.given c.args.budget (rest_of c.in-Ok.run') whole c.requires.empty page_is c.requires.thin arrivals_are c.finish.result p p' a a' _
-    (c.finish.ensures start (rest_of c.in-Ok.run') _ _ _ _ c.in-Ok-record_all.ensures.ended (plainly c.args.budget c.args.statements.now c.args.given (rest_of c.in-Ok.run') whole)
-    (inputs_count c.args.budget c.args.statements.now c.args.given c.args.page (rest_of c.in-Ok.run') whole) (c.in-Ok-record_all.ensures.went start (c.in-Ok-begin.ensures.ok start _ faults _ earlier refl).1))
+    let empty : IsEmpty before.shows = subst (λ o. IfSome o (λ b. b ≡ [])) same.held c.requires.empty in
+    ran before after c.args.given (rest_of c.in-Ok.run') now whole empty page_is c.requires.thin arrivals_are c.finish.result
+    (c.finish.ensures before.shows (rest_of c.in-Ok.run') _ _ _ _ c.in-Ok-record_inputs.ensures.ended (inputs_count c.args.budget c.args.statements.now c.args.given c.args.page (rest_of c.in-Ok.run') whole)
+    (c.in-Ok-record_inputs.ensures.records before.shows _ [] (c.in-Ok-start.ensures.started before.shows same)))

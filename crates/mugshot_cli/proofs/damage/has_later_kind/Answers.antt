@@ -3,7 +3,7 @@ use Rattle.std.proofs.lemmas.List.{take_rest, append-nil, drop_all}
 use Rattle.input_log.specs.Items.{BeginsWithNone}
 use Rattle.session_store.specs.Session.{payload_of}
 use Rattle.session_store.proofs.Items.{one_more}
-use Rattle.mugshot_cli.proofs.Unread.{all_read, stops_here}
+use Rattle.mugshot_cli.proofs.LaterKinds.{all_read, stops_here}
 use Rattle.mugshot_cli.proofs.damage.has_later_kind.Goals as goal
 
 pub loop-at-preserved : goal.loop-at-preserved

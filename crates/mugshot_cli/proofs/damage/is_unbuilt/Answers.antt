@@ -1,5 +1,5 @@
 use Rattle.std.proofs.Common.{◌≡◌, ◌∙◌, false, refl}
-use Rattle.mugshot_cli.proofs.Unread.{tell_judged, tell_lost}
+use Rattle.mugshot_cli.proofs.LaterKinds.{tell_judged, tell_lost}
 use Rattle.mugshot_cli.proofs.damage.is_unbuilt.Goals as goal
 
 pub returns-in-Ok-clause-told : goal.returns-in-Ok-clause-told

@@ -1,36 +1,39 @@
-use Rattle.std.proofs.Common.{◌≡◌, ◌∙◌, rules}
-use Rattle.mugshot_cli.proofs.Told.{tell_damaged, tell_part, tell_starved}
+use Rattle.std.proofs.Common.{◌≡◌, ℕ, List, refl}
+use Rattle.mug_outside.specs.Told.{TookLess, TookPart, behind}
+use Rattle.mugshot_cli.proofs.ListOutcome.{tell_text}
 use Rattle.mugshot_cli.proofs.listing.list.Goals as goal
 
-pub returns-in-Ok-false : goal.returns-in-Ok-false
-returns-in-Ok-false g c =
-    let broken = rw c.in-Err-Damaged.field-0-is at c.in-Err-Damaged.ensures.told in
-    let judged = rw c.in-Ok-false.field-0-test at c.in-Ok-false.ensures.told in
+pub returns-in-Err : goal.returns-in-Err
+returns-in-Err g c = record { unwritten = record { held = c.read_session.ensures.held; moment = c.read_session.ensures.moment }; listed = (refl, c.in-Err.ensures.refused) }
+
+pub returns-in-Ok-print_items : goal.returns-in-Ok-print_items
+returns-in-Ok-print_items g c =
+    let items = c.items.ensures.items in
+    let took = c.in-Ok-print_items.ensures.ok in
     record {
-      told = tell_damaged _ _ c.in-Err-Damaged.at _ c.recover.ensures.held broken judged;
-      cause = tt;
-      held_stays = c.is_unbuilt.ensures.held ∙ c.recover.ensures.held;
-      moment_stays = c.is_unbuilt.ensures.moment ∙ c.recover.ensures.moment;
+      unwritten = record { held = c.read_session.ensures.held; moment = c.read_session.ensures.moment };
+      listed = tell_text (λ (text : List ℕ). g.O.Sink.taken c.print_items.new.out ≡ behind text (g.O.Sink.taken c.args.out.now)) _ c.in-Ok.session.items c.in-Ok.session.end c.in-Ok.ensures.whole (rw items at took);
     }
 
 pub returns-in-Err-WriteFault : goal.returns-in-Err-WriteFault
 returns-in-Err-WriteFault g c =
-    let items : c.as_slice.result.now ≡ c.in-Ok.session.items = c.as_slice.ensures in
-    let part = c.in-Err-WriteFault.ensures.err in
+    let items = c.items.ensures.items in
+    let said = rw c.in-Err-WriteFault.field-0-is at c.in-Err-WriteFault.ensures in
+    let less = said.err in
     record {
-      told = tell_part _ c.in-Ok.session.items c.in-Ok.session.end _ _ c.in-Ok.ensures.told (rw items at part);
-      cause = search rules;
-      held_stays = c.recover.ensures.held;
-      moment_stays = c.recover.ensures.moment;
+      unwritten = record { held = c.read_session.ensures.held; moment = c.read_session.ensures.moment };
+      listed = (
+        said.rose refl,
+        tell_text (λ (text : List ℕ). TookLess text (g.O.Sink.taken c.args.out.now) (g.O.Sink.taken c.print_items.new.out)) _ c.in-Ok.session.items c.in-Ok.session.end c.in-Ok.ensures.whole (rw items at less),
+      );
     }
 
 pub returns : goal.returns
 returns g c =
-    let items : c.as_slice.result.now ≡ c.in-Ok.session.items = c.as_slice.ensures in
-    let part = c.in-Err-NoMemory-print_items.ensures.err in
+    let items = c.items.ensures.items in
+    let said = rw c.in-Err-NoMemory.field-0-is at c.in-Err-NoMemory.ensures in
+    let part = said.err in
     record {
-      told = tell_starved _ c.in-Ok.session.items c.in-Ok.session.end _ _ c.in-Ok.ensures.told (rw items at part);
-      cause = tt;
-      held_stays = c.recover.ensures.held;
-      moment_stays = c.recover.ensures.moment;
+      unwritten = record { held = c.read_session.ensures.held; moment = c.read_session.ensures.moment };
+      listed = tell_text (λ (text : List ℕ). TookPart text (g.O.Sink.taken c.args.out.now) (g.O.Sink.taken c.print_items.new.out)) _ c.in-Ok.session.items c.in-Ok.session.end c.in-Ok.ensures.whole (rw items at part);
     }

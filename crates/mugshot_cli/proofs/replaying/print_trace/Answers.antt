@@ -1,28 +1,37 @@
-use Rattle.std.proofs.Common.{◌≡◌, ◌∙◌, ap, subst}
+use Rattle.std.proofs.Common.{◌∙◌, sym}
 use Rattle.std.proofs.lemmas.Result.{err_from_is_err_and}
-use Rattle.mug_outside.specs.Told.{TookLess, behind}
-use Rattle.mugshot_cli.specs.Grouping.{text_of}
-use Rattle.mugshot_cli.specs.Tracing.{last_lines}
-use Rattle.mugshot_cli.proofs.Visits.{printed_broke, printed_less, printed_whole}
+use Rattle.capture_engine.specs.Grouping.{text_of}
+use Rattle.mugshot_cli.specs.Outside.{stream}
+use Rattle.mugshot_cli.specs.ThinPage.InputsState.{replay_rest}
+use Rattle.mugshot_cli.specs.ThinPage.Run.{visited}
+use Rattle.mugshot_cli.specs.ThinPage.Tracing.{trace_lines}
+use Rattle.mugshot_cli.proofs.PrintedLines.{adds_then, all_taken, broke_after, broke_first, none_first}
+use Rattle.mugshot_cli.proofs.ThinPage.Visits.{end_is, inputs_are, split, whole}
 use Rattle.mugshot_cli.proofs.replaying.print_trace.Goals as goal
 
 pub returns-in_err-end-clause-err : goal.returns-in_err-end-clause-err
 returns-in_err-end-clause-err g c =
     let p = err_from_is_err_and c.from_residual.result c.from_residual.ensures.1 in
-    rw (p.1, p.2) (printed_broke c.in-Ok.run' _ _ _ c.in-Ok.ensures.0 _ c.in_err-end.ensures.err)
+    let is = c.in-Ok.ensures.0 in
+    rw (p.1, p.2) (none_first (stream g.O.Sink c.args.out.now) (stream g.O.Sink c.put_steps.new.out) c.in_err-end.field-0.0 _ _ c.new-lines.ensures (sym (split c.in-Ok.run' _ is))
+    (broke_first c.new-lines.result (stream g.O.Sink c.args.out.now) (stream g.O.Sink c.put_steps.new.out) c.in_err-end.field-0.0 (text_of (trace_lines (visited (replay_rest c.in-Ok.run')))) _ c.in_err-end.ensures.err))
 
-pub returns-in-Ok-print_last-clause-ok : goal.returns-in-Ok-print_last-clause-ok
-returns-in-Ok-print_last-clause-ok g c =
-    let printed = c.in_ok-end.ensures.ok in
-    let last : last_lines c.in_ok-end.end c.page.result.now c.consumed.result ≡ last_lines c.in_ok-end.end c.print_steps.new.run.state c.print_steps.new.run.consumed =
-    (λ i. last_lines c.in_ok-end.end (c.page.ensures i) (c.consumed.ensures.is i)) in
-    let whole = printed_whole _ _ _ _ c.in-Ok.ensures.0 _ _ c.print_steps.new.run c.in-Ok.ensures.1 printed.0 printed.1 (c.in-Ok-print_last.ensures.ok ∙ ap (λ l. behind (text_of l) (g.O.Sink.taken c.print_steps.new.out)) last) in
-    (whole.0, c.consumed-in-Ok-print_last.ensures.is ∙ whole.1, c.consumed-in-Ok-print_last.ensures.few, whole.2)
+pub returns-in_err-put_end-clause-err : goal.returns-in_err-put_end-clause-err
+returns-in_err-put_end-clause-err g c =
+    let p = err_from_is_err_and c.from_residual-in_err-put_end.result c.from_residual-in_err-put_end.ensures.1 in
+    let is = c.in-Ok.ensures.0 in
+    let steps = c.in_ok-end.ensures in
+    rw (p.1, p.2) (none_first (stream g.O.Sink c.args.out.now) (stream g.O.Sink c.put_end.new.out) c.in_err-put_end.field-0.0 _ _ c.new-lines.ensures (sym (whole c.in-Ok.run' _ is _ c.put_steps.new.run c.in-Ok.ensures.1 steps.over))
+    (broke_after (stream g.O.Sink c.put_end.new.out) c.in_err-put_end.field-0.0 (text_of (trace_lines (visited (replay_rest c.in-Ok.run')))) _ steps.ok c.in_err-put_end.ensures.puts.err))
 
-pub returns-clause-err : goal.returns-clause-err
-returns-clause-err g c =
-    let printed = c.in_ok-end.ensures.ok in
-    let last : last_lines c.in_ok-end.end c.page.result.now c.consumed.result ≡ last_lines c.in_ok-end.end c.print_steps.new.run.state c.print_steps.new.run.consumed =
-    (λ i. last_lines c.in_ok-end.end (c.page.ensures i) (c.consumed.ensures.is i)) in
-    let less = subst (λ l. TookLess (text_of l) (g.O.Sink.taken c.print_steps.new.out) (g.O.Sink.taken c.print_last.new.out)) last c.in-Err-print_last.ensures.err in
-    printed_less _ _ _ _ c.in-Ok.ensures.0 _ _ c.print_steps.new.run c.in-Ok.ensures.1 printed.0 printed.1 less
+pub returns-clause-end : goal.returns-clause-end
+returns-clause-end g c = end_is c.in-Ok.run' _ c.in-Ok.ensures.0 _ c.put_steps.new.run c.in-Ok.ensures.1 c.in_ok-end.ensures.over
+
+pub returns-clause-consumed : goal.returns-clause-consumed
+returns-clause-consumed g c = c.consumed.ensures.is ∙ inputs_are c.in-Ok.run' _ c.in-Ok.ensures.0 _ c.put_steps.new.run c.in-Ok.ensures.1 c.in_ok-end.ensures.over
+
+pub returns-clause-ok : goal.returns-clause-ok
+returns-clause-ok g c =
+    let steps = c.in_ok-end.ensures in
+    all_taken _ _ c.new-lines.ensures (sym (whole c.in-Ok.run' _ c.in-Ok.ensures.0 _ c.put_steps.new.run c.in-Ok.ensures.1 steps.over))
+    (adds_then _ _ steps.ok c.in_ok-put_end.ensures.puts.ok) c.in_ok-put_end.ensures.none

@@ -1,37 +1,24 @@
-use Rattle.std.proofs.Common.{◌≡◌, ◌∙◌}
-use Rattle.mugshot_cli.specs.Replayed.{HasNoHead}
-use Rattle.mugshot_cli.proofs.Retold.{retell_damaged, retell_head, retell_none}
+use Rattle.std.proofs.Common.{refl}
+use Rattle.mugshot_cli.proofs.ReplayOutcome.{tell_head, tell_none}
 use Rattle.mugshot_cli.proofs.replaying.replay.Goals as goal
 
-pub returns-in-Ok-false : goal.returns-in-Ok-false
-returns-in-Ok-false g c =
-    let broken = rw c.in-Err-Damaged.field-0-is at c.in-Err-Damaged.ensures.told in
-    let judged = rw c.in-Ok-false.field-0-test at c.in-Ok-false.ensures.told in
-    record {
-      told = retell_damaged _ _ c.in-Err-Damaged.at _ c.recover.ensures.held broken judged;
-      cause = tt;
-      held_stays = c.is_unbuilt.ensures.held ∙ c.recover.ensures.held;
-      moment_stays = c.is_unbuilt.ensures.moment ∙ c.recover.ensures.moment;
-    }
+pub returns-in-Err : goal.returns-in-Err
+returns-in-Err g c = record { unwritten = record { held = c.read_session.ensures.held; moment = c.read_session.ensures.moment }; replayed = (refl, c.in-Err.ensures.refused) }
 
 pub returns-in-Some : goal.returns-in-Some
 returns-in-Some g c =
-    let items : c.as_slice.result.now ≡ c.in-Ok.session.items = c.as_slice.ensures in
-    let begins = c.in-Some.ensures.1 in
+    let items = c.items.ensures.items in
+    let begins = c.in-Some.ensures in
     record {
-      told = retell_head c.replay_page.result _ c.in-Ok.session.items c.in-Ok.session.end _ _ _ _ _ c.in-Ok.ensures.told (rw items at begins) c.replay_page.ensures.told;
-      cause = c.replay_page.ensures.cause _ _;
-      held_stays = c.recover.ensures.held;
-      moment_stays = c.recover.ensures.moment;
+      unwritten = record { held = c.read_session.ensures.held; moment = c.read_session.ensures.moment };
+      replayed = c.replay_page.ensures _ _ _ _ _ _ (tell_head _ c.in-Ok.session.items c.in-Ok.session.end _ _ _ c.in-Ok.ensures.whole (rw items at begins));
     }
 
 pub returns : goal.returns
 returns g c =
-    let items : c.as_slice.result.now ≡ c.in-Ok.session.items = c.as_slice.ensures in
-    let none : HasNoHead c.as_slice.result.now = c.in-None.ensures in
+    let items = c.items.ensures.items in
+    let none = c.in-None.ensures in
     record {
-      told = retell_none _ c.in-Ok.session.items c.in-Ok.session.end _ c.in-Ok.ensures.told (rw items at none);
-      cause = tt;
-      held_stays = c.recover.ensures.held;
-      moment_stays = c.recover.ensures.moment;
+      unwritten = record { held = c.read_session.ensures.held; moment = c.read_session.ensures.moment };
+      replayed = (refl, tell_none _ c.in-Ok.session.items c.in-Ok.session.end c.in-Ok.ensures.whole (rw items at none));
     }

@@ -1,20 +1,16 @@
-use Rattle.mugshot_cli.specs.declared.command.Command.TheVariants as command
-use Rattle.mugshot_cli.proofs.Complete.{complete}
-use Rattle.mugshot_cli.proofs.Recordable.{capture_done}
-use Rattle.mugshot_cli.proofs.Replayable.{replay_done, replay_spent}
+use Rattle.mugshot_cli.proofs.ListComplete.{list_completes}
+use Rattle.mugshot_cli.proofs.ReplayComplete.{replay_completes}
+use Rattle.mugshot_cli.proofs.CaptureComplete.{capture_completes}
 use Rattle.mugshot_cli.proofs.top.mugshot.Goals as goal
 
-pub returns-clause-list_complete : goal.returns-clause-list_complete
-returns-clause-list_complete g c = λ session bytes items end spelled is whole disk_still out_still.
-    rw c.status.ensures (complete _ _ _ _ _ _ _ _ _ _ _ bytes items end (c.run-outcome.ensures.spelled (command.List session) spelled) is whole disk_still out_still)
+pub returns-clause-did : goal.returns-clause-did
+returns-clause-did g c = (c.run-outcome.result, c.status.ensures, c.say.ensures, c.run-outcome.ensures)
 
-pub returns-clause-replay_complete : goal.returns-clause-replay_complete
-returns-clause-replay_complete g c = λ session bytes base page budget inputs end statements spelled is whole thin disk_still out_still. (
-  (λ ended. rw c.status.ensures (replay_done _ _ _ _ _ _ _ _ _ _ _ bytes base page budget inputs end statements (c.run-outcome.ensures.spelled (command.Replay session) spelled) is whole thin disk_still out_still ended)),
-  (λ spent. rw c.status.ensures (replay_spent _ _ _ _ _ _ _ _ _ _ _ bytes base page budget inputs end statements (c.run-outcome.ensures.spelled (command.Replay session) spelled) is whole thin disk_still out_still spent)),
-)
+pub returns-clause-list_completes : goal.returns-clause-list_completes
+returns-clause-list_completes g c = rw c.status.ensures (list_completes _ _ _ _ c.run-outcome.ensures)
 
-pub returns-clause-capture_complete : goal.returns-clause-capture_complete
-returns-clause-capture_complete g c = λ page arrivals session bytes file steps statements given spelled page_is is_page thin file_is are empty finished fit page_still arrivals_still disk_still out_still.
-    rw c.status.ensures (capture_done steps _ _ _ _ _ _ _ _ bytes file statements given page_is is_page thin file_is are empty finished fit page_still arrivals_still disk_still out_still _
-    (c.run-outcome.ensures.spelled (command.Capture page arrivals session steps) spelled))
+pub returns-clause-replay_completes : goal.returns-clause-replay_completes
+returns-clause-replay_completes g c = rw c.status.ensures (replay_completes _ _ _ _ c.run-outcome.ensures)
+
+pub returns-clause-capture_completes : goal.returns-clause-capture_completes
+returns-clause-capture_completes g c = rw c.status.ensures (capture_completes _ _ _ _ c.run-outcome.ensures)

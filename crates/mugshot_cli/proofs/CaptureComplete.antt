@@ -1,0 +1,79 @@
+-- Where nothing fails, `capture` of a finished run whose frames fit is done, or finds no memory.
+use Rattle.std.proofs.Common.{◌≡◌, inl, inr, ℕ, ◌<◌, ◌≤◌, List, [], IfSome, refl, sym, ◌∙◌, subst, arith, length}
+use Rattle.mug_text.specs.Text.{StopsAt}
+use Rattle.mug_text.specs.declared.limits.TheConstants.{PAGE_LIMIT}
+use Rattle.mug_text.proofs.Texts.{bytes_back, text_or_stop, well_formed}
+use Rattle.arrival_file.specs.Format.{AreArrivals, BreaksAt, IsNotBuiltAt}
+use Rattle.arrival_file.specs.declared.arrival.Arrivals.{Arrivals}
+use Rattle.arrival_file.proofs.Unique.{read_built, read_unbroken, same_arrivals}
+use Rattle.input_log.specs.declared.item.LogItem.TheVariants.{Head}
+use Rattle.session_store.specs.declared.keeper.StoreFault.TheVariants as store_fault
+use Rattle.capture_engine.specs.Grouping.{frames_of}
+use Rattle.capture_engine.specs.declared.recorder.CaptureFault.TheVariants as fault
+use Rattle.mugshot_cli.specs.Capturing.{CaptureDid, DidRun, IsOtherPage, RunDid}
+use Rattle.mugshot_cli.specs.Outcome.{of_capture, status_of}
+use Rattle.mugshot_cli.specs.Outside.{Outside}
+use Rattle.mugshot_cli.specs.ThinPage.Reading.{IsThin}
+use Rattle.mugshot_cli.specs.ThinPage.Run.{plain}
+use Rattle.mugshot_cli.specs.Top.{CanCapture, CaptureCompletes, IsOrStarved, WordsDid}
+use Rattle.mugshot_cli.specs.declared.capturing.ArrivalsRefusal.TheVariants as file
+use Rattle.mugshot_cli.specs.declared.capturing.CaptureOutcome.{CaptureOutcome}
+use Rattle.mugshot_cli.specs.declared.capturing.CaptureOutcome.TheVariants as capture
+use Rattle.mugshot_cli.specs.declared.capturing.PageRefusal.TheVariants as page
+use Rattle.mugshot_cli.specs.declared.command.Command.TheVariants as command
+use Rattle.mugshot_cli.specs.declared.outcome.Outcome.{Outcome}
+use Rattle.mugshot_cli.specs.declared.outcome.Status.TheVariants as status
+use Rattle.mugshot_cli.specs.declared.thin_page.end.End.TheVariants.{Finished, Budget}
+use Rattle.mugshot_cli.specs.declared.thin_page.reading.Statement.{Statement}
+use Rattle.mugshot_cli.specs.declared.thin_page.recording.RunOutcome.{RunOutcome}
+use Rattle.mugshot_cli.specs.declared.thin_page.recording.RunOutcome.TheVariants as ran
+use Rattle.mugshot_cli.proofs.ListComplete.{told}
+use Rattle.mugshot_cli.proofs.ThinPage.Statements.{same_page}
+
+module _ (steps : ℕ) (before after : Outside) (can : CanCapture steps before after) where
+  -- the run that was recorded is this one
+  the_run : (outcome : RunOutcome) → DidRun outcome steps before after.shows
+      → RunDid outcome steps (plain steps can.statements can.given.turns) (frames_of (Head can.given.base steps can.bytes) (plain steps can.statements can.given.turns).inputs) before.shows after.shows
+  the_run outcome did =
+      let same_bytes : can.bytes ≡ did.bytes = told (λ b. b ≡ did.bytes) before.page can.bytes can.page_is did.page_is in
+      let same_statements : did.statements ≡ can.statements = same_page can.bytes did.statements can.statements (subst (λ (l : List ℕ). IsThin l did.statements) (sym same_bytes) did.page.thin) can.page.thin in
+      let same_given : did.given ≡ can.given = same_arrivals can.file did.given can.given (told (λ b. AreArrivals b did.given) before.arrivals can.file can.file_is did.arrivals_are) can.are in
+      subst (λ (b : List ℕ). RunDid outcome steps (plain steps can.statements can.given.turns) (frames_of (Head can.given.base steps b) (plain steps can.statements can.given.turns).inputs) before.shows after.shows) (sym same_bytes)
+      (subst (λ (g : Arrivals). RunDid outcome steps (plain steps can.statements g.turns) (frames_of (Head g.base steps did.bytes) (plain steps can.statements g.turns).inputs) before.shows after.shows) same_given
+      (subst (λ (s : List Statement). RunDid outcome steps (plain steps s did.given.turns) (frames_of (Head did.given.base steps did.bytes) (plain steps s did.given.turns).inputs) before.shows after.shows) same_statements did.did))
+
+  no_stop : (at : ℕ) → StopsAt can.bytes at → ⊥
+  no_stop at stops = text_or_stop stops can.text.units (well_formed can.text.text) (bytes_back can.text.text)
+
+  not_there : IfSome before.shows.held (λ bytes. 0 < length bytes) → ⊥
+  not_there some = let none : 0 < 0 = told (λ b. 0 < length b) before.shows.held [] can.empty some in omega arith
+
+  done_or_starved : (own : CaptureOutcome) → CaptureDid own steps before after → IsOrStarved (status_of (of_capture own)) status.Done
+  done_or_starved capture.NotEmpty did = absurd (not_there did.1)
+  done_or_starved capture.DiskFault did = absurd (can.quiet.disk did.1)
+  done_or_starved capture.NoMemory did = inr refl
+  done_or_starved (capture.Page page.ReadFault) did = absurd (can.page_quiet did.2.0)
+  done_or_starved (capture.Page page.TooLarge) did = let large = told (λ b. PAGE_LIMIT < length b) before.page can.bytes can.page_is did.2 in absurd (omega (arith, can.page.within))
+  done_or_starved (capture.Page (page.NotUtf8 at)) did = absurd (no_stop at (told (λ b. (length b ≤ PAGE_LIMIT) × StopsAt b at) before.page can.bytes can.page_is did.2).1)
+  done_or_starved (capture.Page page.NotBuilt) did = absurd ((told IsOtherPage before.page can.bytes can.page_is did.2).other can.statements can.page.thin)
+  done_or_starved (capture.Page page.NoMemory) did = inr refl
+  done_or_starved (capture.Arrivals file.ReadFault) did = absurd (can.arrivals_quiet did.3.0)
+  done_or_starved (capture.Arrivals (file.Line line kind)) did =
+      absurd (read_unbroken can.file can.given line kind can.are (told (λ b. BreaksAt b line kind) before.arrivals can.file can.file_is did.3))
+  done_or_starved (capture.Arrivals file.NotBuilt) did =
+      let at = told (λ b. (line : ℕ) × IsNotBuiltAt b line) before.arrivals can.file can.file_is did.3 in absurd (read_built can.file can.given at.0 can.are at.1)
+  done_or_starved (capture.Arrivals file.NoMemory) did = inr refl
+  done_or_starved (capture.Ran ran.Done) did = inl refl
+  done_or_starved (capture.Ran (ran.Budget n)) did = let spent = (the_run (ran.Budget n) did).0 in let e : Finished ≡ Budget = sym can.finished ∙ spent in absurd (cc)
+  done_or_starved (capture.Ran (ran.Halted (fault.Store store_fault.Full))) did = absurd ((the_run (ran.Halted (fault.Store store_fault.Full)) did).0 can.fit)
+  done_or_starved (capture.Ran (ran.Halted (fault.Store store_fault.DiskFault))) did = absurd (can.quiet.disk (the_run (ran.Halted (fault.Store store_fault.DiskFault)) did).rose)
+  done_or_starved (capture.Ran (ran.Halted (fault.Store store_fault.NotEmpty))) did = absurd (not_there (the_run (ran.Halted (fault.Store store_fault.NotEmpty)) did).1)
+  done_or_starved (capture.Ran (ran.Halted (fault.Store store_fault.Stopped))) did = absurd (the_run (ran.Halted (fault.Store store_fault.Stopped)) did)
+  done_or_starved (capture.Ran (ran.Halted (fault.Store store_fault.NoMemory))) did = inr refl
+  done_or_starved (capture.Ran (ran.Halted fault.WriteFault)) did = absurd (can.quiet.out (the_run (ran.Halted fault.WriteFault) did).rose)
+  done_or_starved (capture.Ran (ran.Halted fault.NoMemory)) did = inr refl
+
+pub capture_completes : (words : List (List ℕ)) (r : Outcome) (before after : Outside) → WordsDid words r before after → CaptureCompletes words (status_of r) before after
+capture_completes words r before after did page arrivals session steps spelled can =
+    let own = did.spelled (command.Capture page arrivals session steps) spelled in
+    subst (λ (x : Outcome). IsOrStarved (status_of x) status.Done) (sym own.1) (done_or_starved steps before after can own.0 own.2)

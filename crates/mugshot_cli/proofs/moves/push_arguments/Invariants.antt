@@ -1,7 +1,0 @@
-use Rattle.std.proofs.Common.{◌≡◌, ◌++◌, take}
-use Rattle.std.specs.List.{flat_map}
-use Rattle.mugshot_cli.specs.Machine.{argument_moves}
-use Rattle.mugshot_cli.proofs.moves.push_arguments.Given as goal
-
-abbrev pub invariant-loop-argument : goal.invariant-loop-argument
-invariant-loop-argument l = l.moves.items ≡ l.initial.moves.items ++ flat_map argument_moves (take l.argument-index l.arguments)

@@ -1,9 +1,0 @@
-use Rattle.std.proofs.Common.{[]}
-use Rattle.mugshot_cli.specs.Running.{IsAhead, rest_of}
-use Rattle.mugshot_cli.proofs.plain.PlainRun.next.Given as goal
-
-abbrev pub invariant-steps : goal.invariant-steps
-invariant-steps l = IsAhead [] (rest_of l.initial.self) (rest_of l.self)
-
-abbrev pub decreases-steps : goal.decreases-steps
-decreases-steps l = l.self.left

@@ -1,9 +1,0 @@
-use Rattle.std.proofs.Common.{refl, arith, ap}
-use Rattle.mugshot_cli.specs.Replayed.{ReplayState}
-use Rattle.mugshot_cli.proofs.Replays.{passes}
-use Rattle.mugshot_cli.proofs.replayed.InputsRun.pass.Goals as goal
-
-pub returns : goal.returns
-returns c =
-    let here = ap (λ (r : ReplayState). r.left) c.self.view_is in
-    passes _ _ _ c.self.view_is (omega arith) c.requires.busy c.requires.asks c.in_ok-step.ensures.ok refl (omega arith)

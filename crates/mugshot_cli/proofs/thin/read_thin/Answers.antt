@@ -1,5 +1,0 @@
-use Rattle.mugshot_cli.proofs.Statements.{page_answer}
-use Rattle.mugshot_cli.proofs.thin.read_thin.Goals as goal
-
-pub returns-in-Some : goal.returns-in-Some
-returns-in-Some c = page_answer c.args.page.now c.in-Some.inner.now c.read_statements.result c.in-Some.ensures c.read_statements.ensures

@@ -1,0 +1,80 @@
+-- What the code of the runs keeps.
+use Rattle.std.specs.Prelude.{◌≡◌, ◌⊎◌, ℕ, ◌≤◌, true, false, List, [], ◌++◌}
+use Rattle.arrival_file.specs.declared.arrival.Arrival.{Arrival}
+use Rattle.input_log.specs.declared.item.LogItem.{LogItem}
+use Rattle.input_log.specs.Items.{IsItem}
+use Rattle.input_log.specs.Kinds.{is_input}
+use Rattle.capture_engine.specs.Grouping.{grouped}
+use Rattle.capture_engine.specs.Outside.{Shown}
+use Rattle.capture_engine.specs.Recording.{Halted, Recorded, RecorderState}
+use Rattle.capture_engine.specs.declared.recorder.CaptureFault.{CaptureFault}
+use Rattle.mugshot_cli.specs.ThinPage.Machine.{State}
+use Rattle.mugshot_cli.specs.declared.thin_page.end.End.{End}
+use Rattle.mugshot_cli.specs.declared.thin_page.end.End.TheVariants.{Finished, Budget}
+use Rattle.mugshot_cli.specs.declared.thin_page.end.PlainEnd.{PlainEnd}
+use Rattle.mugshot_cli.specs.declared.thin_page.end.PlainEnd.TheVariants as plain_end
+use Rattle.mugshot_cli.specs.ThinPage.Run.{Answers, Run, ends, is_finished, plain_from}
+
+-- a run over arrivals: the page steps that are left, the state, and what is left of answers and arrivals
+pub record PlainState : Type 0 where
+  pub left : ℕ
+  pub state : State
+  pub answers : Answers
+  pub arrivals : List Arrival
+
+-- the rest of the run
+abbrev pub rest_of : PlainState → Run
+rest_of r = plain_from r.left r.state r.answers r.arrivals
+
+-- the run isn't at its end
+pub record RunsOn (r : PlainState) : Type 0 where
+  pub left : 1 ≤ r.left
+  pub unfinished : is_finished r.state.left r.arrivals ≡ false
+
+-- an item in its range that a run consumes
+pub record IsInput (item : LogItem) : Type 0 where
+  pub valid : IsItem item
+  pub input : is_input item ≡ true
+
+-- one run is another's rest, after these inputs
+pub record IsAhead (inputs : List LogItem) (run rest : Run) : Type 0 where
+  pub inputs_are : run.inputs ≡ inputs ++ rest.inputs
+  pub last_is : run.last ≡ rest.last
+  pub end_is : run.end ≡ rest.end
+
+-- a run ends in this state
+pub record EndsIn (run : Run) (r : PlainState) : Type 0 where
+  pub last_is : run.last ≡ r.state
+  pub end_is : rest_of r ≡ ends r.state run.end
+
+-- the ends of a run over arrivals
+abbrev pub IsPlainEnd : End → Type 0
+IsPlainEnd end = (end ≡ Finished) ⊎ (end ≡ Budget)
+
+-- the same end of a run
+abbrev pub run_end : PlainEnd → End
+run_end plain_end.Finished = Finished
+run_end plain_end.Budget = Budget
+
+-- the run is over, and this is its end
+abbrev pub IsOver : PlainState → Type 0
+IsOver r = (whole : Run) × EndsIn whole r
+
+-- ---- the recording of a run
+
+-- since `start`, some of these frames were committed and said; the others are those of the items in the open frame and of these inputs
+pub record Going (start now : Shown) (all : List (List LogItem)) (r : RecorderState) (inputs : List LogItem) : Type 0 where
+  pub frames : List (List LogItem)
+  pub current : List LogItem
+  pub so_far : Recorded start now frames current r
+  pub is : all ≡ frames ++ grouped current inputs
+
+-- these inputs are recorded, after the items in the open frame
+abbrev pub RecordsAll : List LogItem → Shown → Shown → RecorderState → RecorderState → Type 0
+RecordsAll inputs now now' r r' =
+    (start : Shown) (frames : List (List LogItem)) (current : List LogItem) → Recorded start now frames current r → Recorded start now' (frames ++ grouped current inputs) [] r'
+
+-- their recording was halted
+abbrev pub HaltsIn : List LogItem → CaptureFault → Shown → Shown → RecorderState → Type 0
+HaltsIn inputs fault now now' r =
+    (start : Shown) (frames : List (List LogItem)) (current : List LogItem) → Recorded start now frames current r → Halted fault start now' (frames ++ grouped current inputs)

@@ -1,0 +1,57 @@
+-- What `replay` prints of a run.
+use Rattle.std.specs.Prelude.{ℕ, nat_lt, List, [], ◌∷◌, ◌++◌, length, drop, map, codes, decimal, if◌then◌else◌}
+use Rattle.mugshot_cli.specs.ThinPage.Machine.{State}
+use Rattle.mugshot_cli.specs.ThinPage.Run.{Run, visited}
+use Rattle.capture_engine.specs.Grouping.{text_of}
+use Rattle.mugshot_cli.specs.declared.thin_page.end.End.{End}
+use Rattle.mugshot_cli.specs.declared.thin_page.end.End.TheVariants.{Finished, Budget, Cut, Diverged}
+
+-- the start of a turn, by its number from 1 and its moment
+abbrev pub turn_line : ℕ → ℕ → List ℕ
+turn_line turns clock = codes "turn " ++ decimal turns ++ codes " load " ++ decimal clock ++ codes "\n"
+
+-- a line of the console
+abbrev pub log_line : List ℕ → List ℕ
+log_line text = codes "log " ++ text ++ codes "\n"
+
+-- the start of a turn, where more were started than before
+abbrev pub turn_lines : ℕ → State → List (List ℕ)
+turn_lines turns s = if nat_lt turns s.turns then turn_line s.turns s.clock ∷ [] else []
+
+-- the console's lines after the first n
+abbrev pub log_lines : ℕ → State → List (List ℕ)
+log_lines n s = map log_line (drop n s.console)
+
+-- what a step that left this state adds to the trace, where so many turns were started and so many lines logged before it
+abbrev pub step_lines : ℕ → ℕ → State → List (List ℕ)
+step_lines turns n s = turn_lines turns s ++ log_lines n s
+
+-- what the steps between these states add
+abbrev pub lines_after : State → List State → List (List ℕ)
+lines_after old [] = []
+lines_after old (s ∷ states) = step_lines old.turns (length old.console) s ++ lines_after s states
+
+-- of the states that a run visits, the first adds nothing
+abbrev pub trace_lines : List State → List (List ℕ)
+trace_lines [] = []
+trace_lines (s ∷ states) = lines_after s states
+
+-- the last line: its word, and the numbers of turns, steps and consumed inputs; a thin page has no inserted code to count
+abbrev pub last_line : List ℕ → ℕ → ℕ → ℕ → List ℕ
+last_line word turns steps inputs =
+    word ++ codes " turns=" ++ decimal turns ++ codes " steps=" ++ decimal steps ++ codes " hidden=0 calls=0 nested=0 inputs=" ++ decimal inputs ++ codes "\n"
+
+-- a run that diverges has none
+abbrev pub last_lines : End → State → ℕ → List (List ℕ)
+last_lines Finished s inputs = last_line (codes "end") s.turns s.steps inputs ∷ []
+last_lines Cut s inputs = last_line (codes "cut") s.turns s.steps inputs ∷ []
+last_lines Budget s inputs = last_line (codes "budget") s.turns s.steps inputs ∷ []
+last_lines (Diverged wanted found) s inputs = []
+
+-- all lines of a run
+abbrev pub trace : Run → List (List ℕ)
+trace run = trace_lines (visited run) ++ last_lines run.end run.last (length run.inputs)
+
+-- the text of a run
+abbrev pub trace_text : Run → List ℕ
+trace_text run = text_of (trace run)
