@@ -1,14 +1,14 @@
 -- Nodes that fit still fit where what ties them together stays.
-use Rattle.std.proofs.Common.{◌≡◌, ℕ, zero, suc, ◌<◌, ◌≤◌, true, false, cond, List, [], ◌∷◌, ◌++◌, length, get_or, set, Option, Some, None, refl, sym, ap, subst, ◌∙◌, arith, ⊎_elim, length-append}
+use Rattle.std.proofs.Common.{◌≡◌, ℕ, zero, suc, ◌<◌, ◌≤◌, true, false, cond, List, [], ◌∷◌, ◌++◌, length, get_or, set, Option, Some, None, is_some, refl, sym, ap, subst, ◌∙◌, arith, ⊎_elim, length-append}
 use Rattle.std.specs.Prelude.{OnOk, Result, Ok, Err}
-use Rattle.std.proofs.lemmas.Bool.{cases_eq, false≢true}
-use Rattle.std.proofs.lemmas.Option.{slice_get-get_or}
+use Rattle.std.proofs.lemmas.Bool.{cases_eq, cases_lt, false≢true}
+use Rattle.std.proofs.lemmas.Option.{slice_get-get_or, slice_get_past}
 use Rattle.std.specs.List.{slice_get}
 use Rattle.std.specs.Option.{option_map}
 use Rattle.html_profile.specs.declared.document.DocAttribute.{DocAttribute}
-use Rattle.dom_tree.specs.Nodes.{parent_in, children_in, is_text_in, is_document_in, is_text_kind, is_document_kind, parent_of, children_of, is_text, is_one, times, Ends, Fits}
+use Rattle.dom_tree.specs.Nodes.{parent_in, children_in, is_text_in, is_document_in, has_value_in, is_text_kind, is_document_kind, parent_of, children_of, is_text, is_one, times, Ends, Fits}
 use Rattle.dom_tree.specs.Changes.{changed}
-use Rattle.dom_tree.specs.Names.{with_attributes, with_text, with_own_value}
+use Rattle.dom_tree.specs.Names.{with_attributes, with_text, with_own_value, keeps_value, keeps_value_in}
 use Rattle.dom_tree.specs.declared.parts.DomNode.{DomNode}
 use Rattle.dom_tree.specs.declared.parts.Kind.{Kind}
 use Rattle.dom_tree.specs.declared.parts.Kind.TheVariants.{Document, Element, Text}
@@ -23,7 +23,8 @@ Ends_same old new same (suc k) (Some x) ends = subst (Ends new k) (sym (same x))
 
 module _ (nodes after : List DomNode) (fits : Fits nodes) (longer : length nodes ≤ length after) (parents_same : (x : ℕ) → parent_of after x ≡ parent_of nodes x)
     (children_same : (x : ℕ) → children_of after x ≡ children_of nodes x) (texts_same : (x : ℕ) → x < length nodes → is_text after x ≡ is_text nodes x)
-    (document_same : is_document_in (slice_get after 0) ≡ is_document_in (slice_get nodes 0)) where
+    (documents_same : (x : ℕ) → is_document_in (slice_get after x) ≡ is_document_in (slice_get nodes x))
+    (values_are : (x : ℕ) → has_value_in (slice_get after x) ≡ keeps_value_in (slice_get after x)) where
   old_parent : (x p : ℕ) → parent_of after x ≡ Some p → (p < length nodes) × (is_text nodes p ≡ false)
   old_parent x p is = fits.parents x p (sym (parents_same x) ∙ is)
 
@@ -35,7 +36,9 @@ module _ (nodes after : List DomNode) (fits : Fits nodes) (longer : length nodes
 
   pub kept_fits : Fits after
   kept_fits = record {
-    document = document_same ∙ fits.document;
+    document = documents_same 0 ∙ fits.document;
+    alone = λ x is. fits.alone x (sym (documents_same x) ∙ is);
+    values = values_are;
     top = parents_same 0 ∙ fits.top;
     children = λ x c. ap (times c) (children_same x) ∙ fits.children x c ∙ ap (λ o. cond (is_one x o) 1 0) (sym (parents_same c));
     parents = new_parent;
@@ -52,10 +55,11 @@ kept_at r f i nodes same x =
 
 module _ (nodes : List DomNode) (fits : Fits nodes) (i : ℕ) (d : DomNode) (inside : i < length nodes) where
   changed_fits : (f : DomNode → DomNode) → parent_in (option_map f (slice_get nodes i)) ≡ parent_in (slice_get nodes i) → children_in (option_map f (slice_get nodes i)) ≡ children_in (slice_get nodes i)
-      → is_text_in (option_map f (slice_get nodes i)) ≡ is_text_in (slice_get nodes i) → is_document_in (option_map f (slice_get nodes i)) ≡ is_document_in (slice_get nodes i) → Fits (changed f i nodes)
-  changed_fits f p c t k =
+      → is_text_in (option_map f (slice_get nodes i)) ≡ is_text_in (slice_get nodes i) → is_document_in (option_map f (slice_get nodes i)) ≡ is_document_in (slice_get nodes i)
+      → has_value_in (option_map f (slice_get nodes i)) ≡ has_value_in (slice_get nodes i) → keeps_value_in (option_map f (slice_get nodes i)) ≡ keeps_value_in (slice_get nodes i) → Fits (changed f i nodes)
+  changed_fits f p c t k h v =
       kept_fits nodes (changed f i nodes) fits (let e = length_changed f i nodes in omega arith) (kept_at parent_in f i nodes p) (kept_at children_in f i nodes c) (λ x within. kept_at is_text_in f i nodes t x)
-      (kept_at is_document_in f i nodes k 0)
+      (kept_at is_document_in f i nodes k) (λ x. kept_at has_value_in f i nodes h x ∙ fits.values x ∙ sym (kept_at keeps_value_in f i nodes v x))
 
   here : slice_get nodes i ≡ Some (get_or nodes i d)
   here = slice_get-get_or nodes i d inside
@@ -66,24 +70,33 @@ module _ (nodes : List DomNode) (fits : Fits nodes) (i : ℕ) (d : DomNode) (ins
   pub attributes_fit : (new : List DocAttribute) → Fits (set nodes i (record (get_or nodes i d) { attributes = new }))
   attributes_fit new =
       let f : DomNode → DomNode = λ node. record node { attributes = new } in
-      subst Fits (sym (set_is_changed f i nodes d inside)) (changed_fits f (same_here parent_in f refl) (same_here children_in f refl) (same_here is_text_in f refl) (same_here is_document_in f refl))
+      subst Fits (sym (set_is_changed f i nodes d inside)) (changed_fits f (same_here parent_in f refl) (same_here children_in f refl) (same_here is_text_in f refl) (same_here is_document_in f refl)
+      (same_here has_value_in f refl) (same_here keeps_value_in f refl))
 
-  pub value_fits : (value : List ℕ) → Fits (set nodes i (record (get_or nodes i d) { value = Some value }))
-  value_fits value =
+  pub value_fits : (value : List ℕ) → keeps_value_in (slice_get nodes i) ≡ true → Fits (set nodes i (record (get_or nodes i d) { value = Some value }))
+  value_fits value keeps =
       let f = with_own_value value in
-      subst Fits (sym (set_is_changed f i nodes d inside)) (changed_fits f (same_here parent_in f refl) (same_here children_in f refl) (same_here is_text_in f refl) (same_here is_document_in f refl))
+      let had : has_value_in (Some (get_or nodes i d)) ≡ true = ap has_value_in (sym here) ∙ fits.values i ∙ keeps in
+      subst Fits (sym (set_is_changed f i nodes d inside)) (changed_fits f (same_here parent_in f refl) (same_here children_in f refl) (same_here is_text_in f refl) (same_here is_document_in f refl)
+      (same_here has_value_in f (sym had)) (same_here keeps_value_in f refl))
 
   text_kind : (k : Kind) → is_text_kind k ≡ true → is_document_kind k ≡ false
   text_kind Document is = absurd (false≢true is)
   text_kind (Element name) is = absurd (false≢true is)
   text_kind (Text text) is = refl
 
+  text_keeps : (k : Kind) → is_text_kind k ≡ true → keeps_value k ≡ false
+  text_keeps Document is = refl
+  text_keeps (Element name) is = absurd (false≢true is)
+  text_keeps (Text text) is = refl
+
   pub text_fits : (text : List ℕ) → is_text nodes i ≡ true → Fits (set nodes i (record (get_or nodes i d) { kind = Text text }))
   text_fits text is =
       let f = with_text text in
       let was : is_text_kind (get_or nodes i d).kind ≡ true = ap is_text_in (sym here) ∙ is in
       subst Fits (sym (set_is_changed f i nodes d inside))
-      (changed_fits f (same_here parent_in f refl) (same_here children_in f refl) (same_here is_text_in f (sym was)) (same_here is_document_in f (sym (text_kind (get_or nodes i d).kind was))))
+      (changed_fits f (same_here parent_in f refl) (same_here children_in f refl) (same_here is_text_in f (sym was)) (same_here is_document_in f (sym (text_kind (get_or nodes i d).kind was)))
+      (same_here has_value_in f refl) (same_here keeps_value_in f (sym (text_keeps (get_or nodes i d).kind was))))
 
 pub attributes_ok : {T E : Type 0} (r : Result T E) (f : List DocAttribute → List DocAttribute) (nodes : List DomNode) (i : ℕ) (d : DomNode) (new : List DocAttribute) → i < length nodes
     → OnOk r (new ≡ f (get_or nodes i d).attributes) → OnOk r (set nodes i (record (get_or nodes i d) { attributes = new }) ≡ changed (with_attributes f) i nodes)
@@ -110,7 +123,21 @@ some_node : (nodes : List DomNode) → is_document_in (slice_get nodes 0) ≡ tr
 some_node [] is = absurd (false≢true is)
 some_node (node ∷ nodes) is = omega arith
 
-pub grown_fits : (nodes : List DomNode) → Fits nodes → (node : DomNode) → node.parent ≡ None → node.children ≡ [] → Fits (nodes ++ node ∷ [])
-grown_fits nodes fits node alone childless =
+pub grown_fits : (nodes : List DomNode) → Fits nodes → (node : DomNode) → node.parent ≡ None → node.children ≡ [] → is_document_kind node.kind ≡ false → is_some node.value ≡ keeps_value node.kind
+    → Fits (nodes ++ node ∷ [])
+grown_fits nodes fits node alone childless no_document value_is =
     kept_fits nodes (nodes ++ node ∷ []) fits (omega (arith, length-append nodes (node ∷ []))) (grown_same parent_in node alone nodes) (grown_same children_in node childless nodes)
-    (λ x inside. ap is_text_in (grown_before node nodes x inside)) (ap is_document_in (grown_before node nodes 0 (some_node nodes fits.document)))
+    (λ x inside. ap is_text_in (grown_before node nodes x inside)) (grown_same is_document_in node no_document nodes) values_grown
+  where
+    values_grown : (x : ℕ) → has_value_in (slice_get (nodes ++ node ∷ []) x) ≡ keeps_value_in (slice_get (nodes ++ node ∷ []) x)
+    values_grown x =
+        ⊎_elim
+        (λ before. ap has_value_in (grown_before node nodes x before) ∙ fits.values x ∙ sym (ap keeps_value_in (grown_before node nodes x before)))
+        (λ behind.
+        ⊎_elim
+        (λ is. subst (λ v. has_value_in (slice_get (nodes ++ node ∷ []) v) ≡ keeps_value_in (slice_get (nodes ++ node ∷ []) v)) (sym is) (ap has_value_in (grown_last node nodes) ∙ value_is ∙ sym (ap keeps_value_in (grown_last node nodes))))
+        (λ apart.
+        let past = slice_get_past (nodes ++ node ∷ []) x (omega (arith, length-append nodes (node ∷ []))) in
+        ap has_value_in past ∙ sym (ap keeps_value_in past))
+        (cases_eq x (length nodes)))
+        (cases_lt x (length nodes))

@@ -9,3 +9,4 @@ pub mod Named
 pub mod Fitting
 pub mod Walks
 pub mod Fronts
+pub mod Neighbours

@@ -3,13 +3,14 @@ use Rattle.std.proofs.Common.{◌≡◌, ◌≢◌, ℕ, zero, suc, ◌+◌, ◌
 use Rattle.std.proofs.lemmas.Bool.{cases_eq, cases_lt, eqb-false, false≢true}
 use Rattle.std.proofs.lemmas.Option.{slice_get_past}
 use Rattle.std.specs.List.{slice_get, list_any}
-use Rattle.dom_tree.specs.Nodes.{parent_in, children_in, is_document_in, parent_of, children_of, is_text, is_one, is_child, times, way_up, Ends, ancestors, Fits}
+use Rattle.dom_tree.specs.Names.{keeps_value_in}
+use Rattle.dom_tree.specs.Nodes.{parent_in, children_in, is_document_in, has_value_in, parent_of, children_of, is_text, is_one, is_child, times, way_up, Ends, ancestors, Fits}
 use Rattle.dom_tree.specs.Changes.{changed, with_parent, with_children, at_end, put_before, left, placed, appended, removed, would_cycle}
 use Rattle.dom_tree.specs.declared.parts.DomNode.{DomNode}
 use Rattle.dom_tree.proofs.Items.{length_changed, beside_changed}
 use Rattle.dom_tree.proofs.Kids.{times_at_end, times_before, unequal}
 use Rattle.dom_tree.proofs.Ways.{Ends_none, Ends_within, way_step, stays, joins, or_left, or_right}
-use Rattle.dom_tree.proofs.Points.{parent_kept, text_kept, document_kept, children_beside, text_beside, document_beside, parent_set, children_set, parent_left, text_left, document_left, length_left, gone, stay}
+use Rattle.dom_tree.proofs.Points.{parent_kept, text_kept, children_beside, text_beside, parent_set, children_set, parent_left, text_left, length_left, gone, stay, documents_placed, documents_removed, values_placed, values_removed}
 
 none_some : (q : ℕ) → None ≡ Some q → ⊥
 none_some q is = cc
@@ -26,7 +27,8 @@ ends_alone above (suc n) x some none = subst (Ends above n) (sym none) (Ends_non
 module _ (nodes after : List DomNode) (c : ℕ) (t : Option ℕ) (fits : Fits nodes)
     (length_is : length after ≡ length nodes)
     (texts : (x : ℕ) → is_text after x ≡ is_text nodes x)
-    (document_is : is_document_in (slice_get after 0) ≡ is_document_in (slice_get nodes 0))
+    (documents : (x : ℕ) → is_document_in (slice_get after x) ≡ is_document_in (slice_get nodes x))
+    (values_are : (x : ℕ) → has_value_in (slice_get after x) ≡ keeps_value_in (slice_get after x))
     (top_is : parent_of after 0 ≡ None)
     (here : parent_of after c ≡ t)
     (others : (x : ℕ) → x ≢ c → parent_of after x ≡ parent_of nodes x)
@@ -56,11 +58,19 @@ module _ (nodes after : List DomNode) (c : ℕ) (t : Option ℕ) (fits : Fits no
       (λ inside.
       let found = joins (parent_of nodes) (parent_of after) c others way.0 (subst (Ends (parent_of after) way.0) (sym here) way.1) (length nodes) (Some x) (fits.ends x) in
       Ends_within (parent_of after) (length after) (λ y p is. (parents_there y p is).0) found.0 x inside found.1)
-      (λ past. ends_alone (parent_of after) (length after) x (some_node after (document_is ∙ fits.document)) (ap parent_in (slice_get_past after x past)))
+      (λ past. ends_alone (parent_of after) (length after) x (some_node after (documents 0 ∙ fits.document)) (ap parent_in (slice_get_past after x past)))
       (cases_lt x (length after))
 
   pub moved : Fits after
-  moved = record { document = document_is ∙ fits.document; top = top_is; children = agree; parents = parents_there; ends = way_ends }
+  moved = record {
+    document = documents 0 ∙ fits.document;
+    alone = λ x is. fits.alone x (sym (documents x) ∙ is);
+    values = values_are;
+    top = top_is;
+    children = agree;
+    parents = parents_there;
+    ends = way_ends;
+  }
 
 module _ (nodes : List DomNode) (fits : Fits nodes) (p c : ℕ) (parent_there : p < length nodes) (child_there : c < length nodes) (valid : would_cycle nodes p c ≡ false) where
   not_parent : c ≢ p
@@ -138,7 +148,7 @@ module _ (nodes : List DomNode) (fits : Fits nodes) (p c : ℕ) (parent_there : 
         moved nodes (placed place p c nodes) c (Some p) fits
         (length_changed (with_parent (Some p)) c (changed (with_children place) p (left c nodes)) ∙ inner_length)
         (λ x. text_beside (Some p) c (changed (with_children place) p (left c nodes)) x ∙ text_kept place p (left c nodes) x ∙ text_left c (parent_of nodes c) nodes x)
-        (document_beside (Some p) c (changed (with_children place) p (left c nodes)) 0 ∙ document_kept place p (left c nodes) 0 ∙ document_left c (parent_of nodes c) nodes 0)
+        (documents_placed place p c nodes) (values_placed nodes fits place p c)
         (placed_others 0 (λ is. not_document (sym is)) ∙ fits.top)
         placed_here placed_others placed_mine placed_theirs
         (λ q is. let same : p ≡ q = cc in subst (λ v. (v < length nodes) × (is_text nodes v ≡ false)) same (parent_there, no_text))
@@ -174,7 +184,7 @@ module _ (nodes : List DomNode) (fits : Fits nodes) (c : ℕ) (child_there : c <
       moved nodes (removed c nodes) c None fits
       (length_changed (with_parent None) c (left c nodes) ∙ left_length_too)
       (λ x. text_beside None c (left c nodes) x ∙ text_left c (parent_of nodes c) nodes x)
-      (document_beside None c (left c nodes) 0 ∙ document_left c (parent_of nodes c) nodes 0)
+      (documents_removed c nodes) (values_removed nodes fits c)
       removed_top removed_here removed_others
       (λ x. ap (times c) (children_beside None c (left c nodes) x) ∙ gone nodes fits c x)
       (λ x y apart. ap (times y) (children_beside None c (left c nodes) x) ∙ stay nodes fits c x y apart)

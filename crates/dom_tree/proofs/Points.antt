@@ -5,8 +5,9 @@ use Rattle.std.proofs.lemmas.Bool.{cases_eq, eqb-true, false≢true}
 use Rattle.std.proofs.lemmas.Option.{slice_get-get_or}
 use Rattle.std.specs.List.{slice_get}
 use Rattle.std.specs.Option.{option_map, MatchOption}
-use Rattle.dom_tree.specs.Nodes.{parent_in, children_in, is_text_in, is_document_in, parent_of, children_of, is_text, is_one, is_child, times, Fits}
-use Rattle.dom_tree.specs.Changes.{changed, with_parent, with_children, without, left, left_at, placed}
+use Rattle.dom_tree.specs.Names.{keeps_value_in}
+use Rattle.dom_tree.specs.Nodes.{parent_in, children_in, is_text_in, is_document_in, has_value_in, parent_of, children_of, is_text, is_one, is_child, times, Fits}
+use Rattle.dom_tree.specs.Changes.{changed, with_parent, with_children, without, left, left_at, placed, removed}
 use Rattle.dom_tree.specs.declared.parts.DomNode.{DomNode}
 use Rattle.dom_tree.proofs.Items.{length_changed, set_is_changed, at_changed, beside_changed, changed_twice, changed_apart, changed_same}
 use Rattle.dom_tree.proofs.Kids.{times_without_same, times_without_other, unequal}
@@ -51,18 +52,12 @@ module _ (f : List ℕ → List ℕ) (i : ℕ) (nodes : List DomNode) where
   pub text_kept : (x : ℕ) → is_text (changed (with_children f) i nodes) x ≡ is_text nodes x
   text_kept x = kept is_text_in (with_children f) (text_in_kept f) i nodes x
 
-  pub document_kept : (x : ℕ) → is_document_in (slice_get (changed (with_children f) i nodes) x) ≡ is_document_in (slice_get nodes x)
-  document_kept x = kept is_document_in (with_children f) (document_in_kept f) i nodes x
-
 module _ (p : Option ℕ) (i : ℕ) (nodes : List DomNode) where
   pub children_beside : (x : ℕ) → children_of (changed (with_parent p) i nodes) x ≡ children_of nodes x
   children_beside x = kept children_in (with_parent p) (children_in_beside p) i nodes x
 
   pub text_beside : (x : ℕ) → is_text (changed (with_parent p) i nodes) x ≡ is_text nodes x
   text_beside x = kept is_text_in (with_parent p) (text_in_beside p) i nodes x
-
-  pub document_beside : (x : ℕ) → is_document_in (slice_get (changed (with_parent p) i nodes) x) ≡ is_document_in (slice_get nodes x)
-  document_beside x = kept is_document_in (with_parent p) (document_in_beside p) i nodes x
 
 -- a node that is there
 pub found : (nodes : List DomNode) (i : ℕ) → i < length nodes → (node : DomNode) × (slice_get nodes i ≡ Some node)
@@ -94,10 +89,6 @@ parent_left c (Some p) nodes x = parent_kept (without c) p nodes x
 pub text_left : (c : ℕ) (o : Option ℕ) (nodes : List DomNode) (x : ℕ) → is_text (left_at c o nodes) x ≡ is_text nodes x
 text_left c None nodes x = refl
 text_left c (Some p) nodes x = text_kept (without c) p nodes x
-
-pub document_left : (c : ℕ) (o : Option ℕ) (nodes : List DomNode) (x : ℕ) → is_document_in (slice_get (left_at c o nodes) x) ≡ is_document_in (slice_get nodes x)
-document_left c None nodes x = refl
-document_left c (Some p) nodes x = document_kept (without c) p nodes x
 
 pub length_left : (c : ℕ) (o : Option ℕ) (nodes : List DomNode) → length (left_at c o nodes) ≡ length nodes
 length_left c None nodes = refl
@@ -194,3 +185,49 @@ pub put_ok : {T E : Type 0} (r : Result T E) (f : List ℕ → List ℕ) (nodes 
     → OnOk r (set nodes i (record (get_or nodes i d) { children = new }) ≡ changed (with_children f) i nodes)
 put_ok (Ok v) f nodes i d new inside is = put_changed f nodes i d new inside is
 put_ok (Err e) f nodes i d new inside is = tt
+
+-- a reader of nodes that no change of parents and children touches
+module _ {Y : Type 0} (r : Option DomNode → Y) (kids : (f : List ℕ → List ℕ) (o : Option DomNode) → r (option_map (with_children f) o) ≡ r o)
+    (above : (p : Option ℕ) (o : Option DomNode) → r (option_map (with_parent p) o) ≡ r o) where
+  read_left : (c : ℕ) (o : Option ℕ) (nodes : List DomNode) (x : ℕ) → r (slice_get (left_at c o nodes) x) ≡ r (slice_get nodes x)
+  read_left c None nodes x = refl
+  read_left c (Some p) nodes x = kept r (with_children (without c)) (kids (without c)) p nodes x
+
+  pub read_placed : (place : List ℕ → List ℕ) (p c : ℕ) (nodes : List DomNode) (x : ℕ) → r (slice_get (placed place p c nodes) x) ≡ r (slice_get nodes x)
+  read_placed place p c nodes x =
+      kept r (with_parent (Some p)) (above (Some p)) c (changed (with_children place) p (left c nodes)) x
+      ∙ kept r (with_children place) (kids place) p (left c nodes) x ∙ read_left c (parent_of nodes c) nodes x
+
+  pub read_removed : (c : ℕ) (nodes : List DomNode) (x : ℕ) → r (slice_get (removed c nodes) x) ≡ r (slice_get nodes x)
+  read_removed c nodes x = kept r (with_parent None) (above None) c (left c nodes) x ∙ read_left c (parent_of nodes c) nodes x
+
+value_kids : (f : List ℕ → List ℕ) (o : Option DomNode) → has_value_in (option_map (with_children f) o) ≡ has_value_in o
+value_kids f None = refl
+value_kids f (Some node) = refl
+
+value_above : (p : Option ℕ) (o : Option DomNode) → has_value_in (option_map (with_parent p) o) ≡ has_value_in o
+value_above p None = refl
+value_above p (Some node) = refl
+
+keeps_kids : (f : List ℕ → List ℕ) (o : Option DomNode) → keeps_value_in (option_map (with_children f) o) ≡ keeps_value_in o
+keeps_kids f None = refl
+keeps_kids f (Some node) = refl
+
+keeps_above : (p : Option ℕ) (o : Option DomNode) → keeps_value_in (option_map (with_parent p) o) ≡ keeps_value_in o
+keeps_above p None = refl
+keeps_above p (Some node) = refl
+
+-- values stand where they did
+module _ (nodes : List DomNode) (fits : Fits nodes) where
+  pub values_placed : (place : List ℕ → List ℕ) (p c x : ℕ) → has_value_in (slice_get (placed place p c nodes) x) ≡ keeps_value_in (slice_get (placed place p c nodes) x)
+  values_placed place p c x =
+      read_placed has_value_in value_kids value_above place p c nodes x ∙ fits.values x ∙ sym (read_placed keeps_value_in keeps_kids keeps_above place p c nodes x)
+
+  pub values_removed : (c x : ℕ) → has_value_in (slice_get (removed c nodes) x) ≡ keeps_value_in (slice_get (removed c nodes) x)
+  values_removed c x = read_removed has_value_in value_kids value_above c nodes x ∙ fits.values x ∙ sym (read_removed keeps_value_in keeps_kids keeps_above c nodes x)
+
+pub documents_placed : (place : List ℕ → List ℕ) (p c : ℕ) (nodes : List DomNode) (x : ℕ) → is_document_in (slice_get (placed place p c nodes) x) ≡ is_document_in (slice_get nodes x)
+documents_placed place p c nodes x = read_placed is_document_in document_in_kept document_in_beside place p c nodes x
+
+pub documents_removed : (c : ℕ) (nodes : List DomNode) (x : ℕ) → is_document_in (slice_get (removed c nodes) x) ≡ is_document_in (slice_get nodes x)
+documents_removed c nodes x = read_removed is_document_in document_in_kept document_in_beside c nodes x

@@ -19,7 +19,7 @@ abbrev pub index_of : ℕ → List ℕ → ℕ
 index_of c [] = 0
 index_of c (x ∷ xs) = cond (x == c) 0 (suc (index_of c xs))
 
-index_is : (c : ℕ) (xs : List ℕ) (i : ℕ) → times c xs ≡ 1 → i < length xs → get_or xs i 0 ≡ c → index_of c xs ≡ i
+pub index_is : (c : ℕ) (xs : List ℕ) (i : ℕ) → times c xs ≡ 1 → i < length xs → get_or xs i 0 ≡ c → index_of c xs ≡ i
 index_is c [] i once inside is = absurd (omega arith)
 index_is c (x ∷ xs) zero once inside is = cond-true (x == c) 0 (suc (index_of c xs)) (eq-eqb x c is)
 index_is c (x ∷ xs) (suc i) once inside is =
@@ -36,7 +36,7 @@ way_length above zero x = omega arith
 way_length above (suc k) None = omega arith
 way_length above (suc k) (Some x) = let e = way_length above k (above x) in omega arith
 
-way_none : (above : ℕ → Option ℕ) (k : ℕ) → way_up above k None ≡ []
+pub way_none : (above : ℕ → Option ℕ) (k : ℕ) → way_up above k None ≡ []
 way_none above zero = refl
 way_none above (suc k) = refl
 
@@ -98,7 +98,7 @@ module _ (nodes : List DomNode) (fits : Fits nodes) where
       let once = stands c (children_of nodes p) i inside is in
       one_from (parent_of nodes c) p (subst (λ n. 1 ≤ n) (fits.children p c) once)
 
-  once_is : (p c : ℕ) → parent_of nodes c ≡ Some p → times c (children_of nodes p) ≡ 1
+  pub once_is : (p c : ℕ) → parent_of nodes c ≡ Some p → times c (children_of nodes p) ≡ 1
   once_is p c is = fits.children p c ∙ ap (λ o. cond (is_one p o) 1 0) is ∙ ap (λ b. cond b 1 0) (eq-eqb p p refl)
 
   split_child : (k p i c : ℕ) → i < length (children_of nodes p) → get_or (children_of nodes p) i 0 ≡ c → (tail : List ℕ)
@@ -188,7 +188,7 @@ pub miss_first : (test : ℕ → Bool) (x : ℕ) (xs : List ℕ) → test x ≡ 
 miss_first test x xs is = cond-false (test x) (Some x) (first_that test xs) is
 
 -- a node with a parent is there
-inside_from : (nodes : List DomNode) (c p : ℕ) → parent_of nodes c ≡ Some p → c < length nodes
+pub inside_from : (nodes : List DomNode) (c p : ℕ) → parent_of nodes c ≡ Some p → c < length nodes
 inside_from nodes c p is =
     ⊎_elim (λ inside. inside) (λ past. absurd (none_is p (sym (ap parent_in (slice_get_past nodes c past)) ∙ is))) (cases_lt c (length nodes))
 

@@ -1,6 +1,8 @@
 -- A document as the list of its nodes (DOM Standard, 4.2, 4.4 and 4.9, in a profile: no doctypes, comments, fragments or shadow trees).
 -- A node's number is its place in the list, and number 0 is the document. A node whose parent is none is outside the document, or the document.
-use Rattle.std.specs.Prelude.{◌≡◌, ℕ, zero, suc, ◌+◌, ◌<◌, ◌==◌, Bool, false, true, cond, List, [], ◌∷◌, length, Option, Some, None, slice_get}
+use Rattle.std.specs.Prelude.{◌≡◌, ℕ, zero, suc, ◌+◌, ◌<◌, ◌==◌, Bool, false, true, cond, List, [], ◌∷◌, length, Option, Some, None, is_some, slice_get, ◌||◌}
+use Rattle.std.specs.List.{list_any}
+use Rattle.dom_tree.specs.Names.{keeps_value_in}
 use Rattle.dom_tree.specs.declared.parts.DomNode.{DomNode}
 use Rattle.dom_tree.specs.declared.parts.Kind.{Kind}
 use Rattle.dom_tree.specs.declared.parts.Kind.TheVariants.{Document, Element, Text}
@@ -31,6 +33,10 @@ is_document_kind (Text text) = false
 abbrev pub is_document_in : Option DomNode → Bool
 is_document_in None = false
 is_document_in (Some node) = is_document_kind node.kind
+
+abbrev pub has_value_in : Option DomNode → Bool
+has_value_in None = false
+has_value_in (Some node) = is_some node.value
 
 abbrev pub parent_of : List DomNode → ℕ → Option ℕ
 parent_of nodes x = parent_in (slice_get nodes x)
@@ -72,11 +78,22 @@ Ends above (suc k) (Some x) = Ends above k (above x)
 abbrev pub ancestors : List DomNode → ℕ → List ℕ
 ancestors nodes x = way_up (parent_of nodes) (length nodes) (parent_of nodes x)
 
--- the nodes make trees: the document is number 0 and has no parent; a node stands once among its parent's children, and among no
--- other node's; every parent is there and is no text; and no way up is longer than there are nodes, so none leads round
+-- the nodes make trees: the document is number 0, is the only one and has no parent; an input or a textarea keeps a value, and no other
+-- node; a node stands once among its parent's children, and among no other node's; every parent is there and is no text; and no way up
+-- is longer than there are nodes, so none leads round
 pub record Fits (nodes : List DomNode) : Type 0 where
   pub document : is_document_in (slice_get nodes 0) ≡ true
+  pub alone : (x : ℕ) → is_document_in (slice_get nodes x) ≡ true → x ≡ 0
+  pub values : (x : ℕ) → has_value_in (slice_get nodes x) ≡ keeps_value_in (slice_get nodes x)
   pub top : parent_of nodes 0 ≡ None
   pub children : (x c : ℕ) → times c (children_of nodes x) ≡ cond (is_child nodes x c) 1 0
   pub parents : (x p : ℕ) → parent_of nodes x ≡ Some p → (p < length nodes) × (is_text nodes p ≡ false)
   pub ends : (x : ℕ) → Ends (parent_of nodes) (length nodes) (Some x)
+
+-- a node is the document or stands below it (4.4, "connected")
+abbrev pub is_in_document : List DomNode → ℕ → Bool
+is_in_document nodes x = (x == 0) || list_any (λ y. y == 0) (ancestors nodes x)
+
+-- a node that is there and in the document
+abbrev pub IsInDocument : List DomNode → ℕ → Type 0
+IsInDocument nodes x = (x < length nodes) × (is_in_document nodes x ≡ true)

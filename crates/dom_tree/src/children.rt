@@ -36,6 +36,18 @@ pub(crate) fn place_of(items: &[u32], wanted: u32) -> usize
     unreachable!()
 }
 
+/// The place of a number that stands once, which may be this one.
+pub(crate) fn place_near(items: &[u32], wanted: u32, guess: usize) -> usize
+    requires { times wanted items.now ≡ 1 }
+    ensures within { result < length items.now }
+    ensures is { slice_index items.now result ≡ wanted }
+{
+    if guess < items.len() && items[guess] == wanted {
+        return guess;
+    }
+    place_of(items, wanted)
+}
+
 impl Children {
     pub(crate) fn new(alloc: Global) -> Children
         ensures { result ≡ [] }

@@ -1,12 +1,15 @@
 // A document.
-ghost use Rattle.std.specs.Prelude.{◌≡◌, ℕ, ◌⊎◌, ◌<◌, ◌≤◌, ◌-◌, ◌^◌, ◌==◌, ◌↔◌, Bool, true, false, List, [], ◌∷◌, ◌++◌, length, IfOk, IfErr, OnOk, OnErr, MatchOption, Some, None, slice_get};
+ghost use Rattle.std.specs.Prelude.{◌≡◌, ℕ, ◌⊎◌, ◌<◌, ◌≤◌, ◌-◌, ◌^◌, ◌==◌, ◌↔◌, Bool, true, false, List, [], ◌∷◌, ◌++◌, length, IfOk, IfErr, IfSome, OnOk, OnErr, MatchOption, Some, None, slice_get};
 ghost use Rattle.std.specs.Option.{option_map};
-ghost use Rattle.dom_tree.specs.Nodes.{Fits, parent_of, children_of, is_child, is_text};
+ghost use Rattle.dom_tree.specs.Nodes.{Fits, parent_of, children_of, is_child, is_text, is_in_document, IsInDocument};
 ghost use Rattle.dom_tree.specs.Changes.{changed, appended, inserted, removed, would_cycle};
 ghost use Rattle.dom_tree.specs.Names.{value_named, attributes_of, with_value, without_name, with_attributes, with_text, with_own_value, keeps_value_in, fresh, kind_of_new};
 ghost use Rattle.dom_tree.specs.Reading.{IsRead};
-ghost use Rattle.dom_tree.specs.Order.{node_by_id, node_by_path};
+ghost use Rattle.dom_tree.specs.Order.{node_by_id, node_by_path, first_child, last_child, next_sibling, previous_sibling, next_within};
 
+use crate::kin::{
+    first_child, is_in_document, last_child, next_sibling, next_within, previous_sibling,
+};
 use crate::moves::{append_child, insert_child, is_child, remove_child, would_cycle};
 use crate::order::{node_by_id, node_by_path};
 use crate::parts::{DomNode, Kind, NewNode};
@@ -225,15 +228,63 @@ impl Dom {
 
     /// The first element of the document, in tree order, with this id.
     pub fn by_id(&self, id: &JText) -> Option<u32>
-        ensures { result ≡ node_by_id self.now id.now }
+        ensures is { result ≡ node_by_id self.now id.now }
+        ensures there { IfSome result (λ node. IsInDocument self.now node) }
     {
         node_by_id(&self.nodes, id)
     }
 
     /// The node that child numbers lead to from the document; 0 is the first child.
     pub fn by_path(&self, path: &[u32]) -> Option<u32>
-        ensures { result ≡ node_by_path self.now path.now }
+        ensures is { result ≡ node_by_path self.now path.now }
+        ensures there { IfSome result (λ node. IsInDocument self.now node) }
     {
         node_by_path(&self.nodes, path)
+    }
+
+    /// Whether the node is the document or stands below it; no node that isn't there does.
+    pub fn is_in_document(&self, node: u32) -> bool
+        ensures { result ≡ is_in_document self.now node }
+    {
+        is_in_document(&self.nodes, node)
+    }
+
+    pub fn first_child(&self, node: u32) -> Option<u32>
+        requires { node < length self.now }
+        ensures is { result ≡ first_child self.now node }
+        ensures there { IfSome result (λ child. is_child self.now node child ≡ true) }
+    {
+        first_child(&self.nodes, node)
+    }
+
+    pub fn last_child(&self, node: u32) -> Option<u32>
+        requires { node < length self.now }
+        ensures is { result ≡ last_child self.now node }
+        ensures there { IfSome result (λ child. is_child self.now node child ≡ true) }
+    {
+        last_child(&self.nodes, node)
+    }
+
+    pub fn next_sibling(&self, node: u32) -> Option<u32>
+        requires { node < length self.now }
+        ensures { result ≡ next_sibling self.now node }
+    {
+        next_sibling(&self.nodes, node)
+    }
+
+    pub fn previous_sibling(&self, node: u32) -> Option<u32>
+        requires { node < length self.now }
+        ensures { result ≡ previous_sibling self.now node }
+    {
+        previous_sibling(&self.nodes, node)
+    }
+
+    /// The node that follows in tree order (DOM Standard, 1.1) within the tree below a root; asked for again and again from the root
+    /// on, it gives all that is below it.
+    pub fn next_within(&self, root: u32, node: u32) -> Option<u32>
+        requires { node < length self.now }
+        ensures { result ≡ next_within self.now root node }
+    {
+        next_within(&self.nodes, root, node)
     }
 }

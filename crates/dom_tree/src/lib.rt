@@ -4,6 +4,7 @@
 mod attributes;
 mod children;
 mod dom;
+mod kin;
 mod moves;
 mod order;
 mod parts;
@@ -15,6 +16,3 @@ pub use attributes::Attributes;
 pub use children::Children;
 pub use dom::{Dom, DomFault};
 pub use parts::{DomNode, Kind, NewNode};
-
-#[cfg(test)]
-mod tests;

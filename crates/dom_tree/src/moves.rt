@@ -7,8 +7,8 @@ ghost use Rattle.dom_tree.specs.Changes.{changed, with_parent, with_children, wi
 use crate::parts::{DomNode, Kind};
 use std::alloc::AllocError;
 
-// Whether a node is an ancestor of another.
-fn is_above(nodes: &[DomNode], wanted: u32, node: u32) -> bool
+/// Whether a node is an ancestor of another.
+pub(crate) fn is_above(nodes: &[DomNode], wanted: u32, node: u32) -> bool
     requires fits { Fits nodes.now }
     requires node { node < length nodes.now }
     ensures { result ≡ list_any (λ x. x == wanted) (ancestors nodes.now node) }

@@ -3,10 +3,13 @@ ghost use Rattle.std.specs.Prelude.{◌≡◌, ◌<◌, ◌≤◌, ◌^◌, leng
 ghost use Rattle.dom_tree.specs.Nodes.{Fits, children_of};
 ghost use Rattle.dom_tree.specs.Order.{has_id_in, child_at, node_by_id, node_by_path};
 
-use crate::children::place_of;
+use crate::children::place_near;
 use crate::parts::{DomNode, Kind};
 use crate::words::same_text;
 use mug_text::JText;
+
+// So many of the places above the walk's node are kept, so that it goes on behind a node that has children without looking for it.
+const LEVELS: usize = 64;
 
 // Whether a node is an element with this id.
 fn has_id(node: &DomNode, id: &JText) -> bool
@@ -29,6 +32,8 @@ pub(crate) fn node_by_id(nodes: &[DomNode], id: &JText) -> Option<u32>
 {
     let mut node: u32 = 0;
     let mut place: usize = 0;
+    let mut places = [0usize; LEVELS];
+    let mut level: usize = 0;
     'walk: loop {
         let here = &nodes[node as usize];
         let children = here.children.as_slice();
@@ -41,6 +46,8 @@ pub(crate) fn node_by_id(nodes: &[DomNode], id: &JText) -> Option<u32>
             if below.children.as_slice().is_empty() {
                 place += 1;
             } else {
+                places[level] = place;
+                level = (level + 1) % LEVELS;
                 node = child;
                 place = 0;
             }
@@ -48,7 +55,9 @@ pub(crate) fn node_by_id(nodes: &[DomNode], id: &JText) -> Option<u32>
             let above = here.parent;
             match above {
                 Some(parent) => {
-                    place = place_of(nodes[parent as usize].children.as_slice(), node) + 1;
+                    level = (level + LEVELS - 1) % LEVELS;
+                    let siblings = nodes[parent as usize].children.as_slice();
+                    place = place_near(siblings, node, places[level]) + 1;
                     node = parent;
                 }
                 None => return None,

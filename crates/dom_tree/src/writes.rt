@@ -1,8 +1,8 @@
 // What a node says of itself is changed.
-ghost use Rattle.std.specs.Prelude.{◌≡◌, ◌<◌, true, [], ◌∷◌, ◌++◌, length, OnOk, OnErr, slice_get, None};
-ghost use Rattle.dom_tree.specs.Nodes.{is_text, Fits};
+ghost use Rattle.std.specs.Prelude.{◌≡◌, ◌<◌, true, false, is_some, [], ◌∷◌, ◌++◌, length, OnOk, OnErr, slice_get, None};
+ghost use Rattle.dom_tree.specs.Nodes.{is_text, is_document_kind, Fits};
 ghost use Rattle.dom_tree.specs.Changes.{changed};
-ghost use Rattle.dom_tree.specs.Names.{with_value, without_name, with_attributes, with_text, with_own_value, keeps_value_in};
+ghost use Rattle.dom_tree.specs.Names.{with_value, without_name, with_attributes, with_text, with_own_value, keeps_value, keeps_value_in};
 
 use crate::parts::{DomNode, Kind};
 use mug_text::JText;
@@ -12,6 +12,8 @@ use std::alloc::AllocError;
 pub(crate) fn push_node(nodes: &mut Vec<DomNode>, node: DomNode) -> Result<(), AllocError>
     requires alone { node.parent ≡ None }
     requires childless { node.children ≡ [] }
+    requires kind { is_document_kind node.kind ≡ false }
+    requires value { is_some node.value ≡ keeps_value node.kind }
     requires fits { Fits nodes.old.items }
     ensures ok { OnOk result (nodes.new.items ≡ nodes.old.items ++ node ∷ []) }
     ensures err { OnErr result (nodes.new.items ≡ nodes.old.items) }
@@ -59,6 +61,7 @@ pub(crate) fn set_text(nodes: &mut [DomNode], node: u32, text: JText)
 }
 
 pub(crate) fn set_value(nodes: &mut [DomNode], node: u32, value: JText)
+    requires keeps { keeps_value_in (slice_get nodes.old node) ≡ true }
     requires node { node < length nodes.old }
     requires fits { Fits nodes.old }
     ensures is { nodes.new ≡ changed (with_own_value value) node nodes.old }

@@ -11,7 +11,7 @@ use Rattle.html_profile.specs.declared.tree.Open.{Open}
 use Rattle.html_profile.specs.declared.standing.Standing.{Standing}
 
 -- the last of a list stands first in its reverse
-reverse_last : {X : Type 0} (xs ys : List X) (x : X) → ys ≡ xs ++ x ∷ [] → reverse ys ≡ x ∷ reverse xs
+pub reverse_last : {X : Type 0} (xs ys : List X) (x : X) → ys ≡ xs ++ x ∷ [] → reverse ys ≡ x ∷ reverse xs
 reverse_last xs ys x is = ap reverse is ∙ reverse-append xs (x ∷ [])
 
 module _ (name : List ℕ) (names : List (List ℕ)) (fewer more : List Bool) (alone : Bool) (is : more ≡ fewer ++ alone ∷ []) where

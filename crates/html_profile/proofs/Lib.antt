@@ -8,3 +8,8 @@ pub mod Trees
 pub mod Pages
 pub mod OnePage
 pub mod Numbers
+pub mod Words
+pub mod Utf8Parts
+pub mod UnitPlaces
+pub mod Utf8Pieces
+pub mod Utf8Page

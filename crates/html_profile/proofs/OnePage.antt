@@ -3,7 +3,7 @@ use Rattle.std.proofs.Common.{◌≡◌, ℕ, List, [], ◌∷◌, Option, Some,
 use Rattle.html_profile.specs.Attributes.{IsAttributes}
 use Rattle.html_profile.specs.Pieces.{kind_of, IsTag, IsStartTag, IsPieceOf, Reads}
 use Rattle.html_profile.specs.Tree.{State, made}
-use Rattle.html_profile.specs.Page.{Page, IsTree, IsPage}
+use Rattle.html_profile.specs.Page.{Page, IsTree, IsPageBehind, page_of}
 use Rattle.html_profile.specs.declared.piece.Kind.{Kind}
 use Rattle.html_profile.specs.declared.piece.Kind.TheVariants.{Comment, Other, Ending, Starting, Words}
 use Rattle.html_profile.specs.declared.piece.Piece.{Piece}
@@ -63,7 +63,7 @@ one_list text (p ∷ ps) (q ∷ qs) first second =
 one_tree : (total : ℕ) (text : List ℕ) (s t : State) → IsTree total text s → IsTree total text t → s ≡ t
 one_tree total text s t first second = first.2 ∙ ap (made total) (one_list text first.0 second.0 first.1 second.1) ∙ sym second.2
 
-pub one_page : (bytes : List ℕ) (p q : Page) → IsPage bytes p → IsPage bytes q → p ≡ q
-one_page bytes p q first second =
+pub one_page : (mark : ℕ) (bytes : List ℕ) (p q : Page) → IsPageBehind mark bytes p → IsPageBehind mark bytes q → p ≡ q
+one_page mark bytes p q first second =
     let same = one_tree _ _ first.0 second.0 first.1 second.1 in
-    first.2 ∙ ap (λ (s : State). record { nodes = s.nodes; scripts = s.scripts; handlers = s.handlers }) same ∙ sym second.2
+    first.2 ∙ ap page_of same ∙ sym second.2

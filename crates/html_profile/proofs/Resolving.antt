@@ -4,7 +4,7 @@ use Rattle.std.proofs.lemmas.List.{take_rest}
 use Rattle.std.specs.Char.{encode_utf8}
 use Rattle.html_profile.specs.Plain.{reference, written, taken, resolved}
 
-skipped : (n : ℕ) (text : List ℕ) → resolved n text ≡ resolved 0 (drop n text)
+pub skipped : (n : ℕ) (text : List ℕ) → resolved n text ≡ resolved 0 (drop n text)
 skipped zero text = refl
 skipped (suc n) [] = refl
 skipped (suc n) (c ∷ rest) = skipped n rest

@@ -6,7 +6,7 @@ use Rattle.html_profile.specs.Attributes.{attribute_at, closing, IsAttributes}
 use Rattle.html_profile.specs.declared.tag.Attribute.{Attribute}
 use Rattle.html_profile.specs.declared.mark.Mark.TheVariants.{NameEnd, Solid}
 use Rattle.html_profile.specs.declared.piece.Piece.TheVariants.{StartTag}
-use Rattle.html_profile.specs.Pieces.{tag_name, raw_of, content, behind_content, IsStartTag}
+use Rattle.html_profile.specs.Pieces.{tag_name, tag_of, raw_of, source, read_source, behind_content, IsStartTag}
 
 -- where no attribute follows, those that were found are all
 pub attributes_end : (text rest at : List ℕ) (found : List Attribute) (end : Option (List ℕ))
@@ -18,16 +18,17 @@ attributes_end text rest at found end on at_is none closes =
     subst (λ l. IsAttributes text l end) (append-nil found) (on [] end (here, behind))
 
 -- a start tag whose parts were found
-pub start_tag_is : (text behind_name name words behind rest : List ℕ) (attributes : List Attribute)
+pub start_tag_is : (text behind_name name words raw behind rest : List ℕ) (attributes : List Attribute)
     → IsAttributes behind_name attributes (Some rest) → behind_name ≡ from NameEnd (take (length text - 1) (drop 1 text)) → name ≡ lower (before NameEnd (take (length text - 1) (drop 1 text)))
-    → words ≡ content (raw_of name) rest → behind ≡ behind_content (raw_of name) rest
-    → IsStartTag text (StartTag (record { name = name; attributes = attributes; text = words; left = length rest })) behind
-start_tag_is text behind_name name words behind rest attributes all from_is name_is words_are behind_is =
+    → raw ≡ source (raw_of name) rest → words ≡ read_source (raw_of name) raw → behind ≡ behind_content (raw_of name) rest
+    → IsStartTag text (StartTag (record { name = name; attributes = attributes; source = raw; text = words; left = length rest })) behind
+start_tag_is text behind_name name words raw behind rest attributes all from_is name_is raw_is words_are behind_is =
     let name_here : name ≡ tag_name text = name_is ∙ ap (λ l. lower (before NameEnd l)) (take_rest text 1) in
-    let words_here : words ≡ content (raw_of (tag_name text)) rest = words_are ∙ ap (λ n. content (raw_of n) rest) name_here in
+    let whole : StartTag (record { name = name; attributes = attributes; source = raw; text = words; left = length rest }) ≡ StartTag (tag_of name attributes rest) =
+    (λ i. StartTag (record { name = name; attributes = attributes; source = raw_is i; text = (words_are ∙ ap (read_source (raw_of name)) raw_is) i; left = length rest })) in
     record {
       attributes = attributes;
       rest = Some rest;
       all = subst (λ l. IsAttributes l attributes (Some rest)) (from_is ∙ ap (from NameEnd) (take_rest text 1)) all;
-      tag = ((λ i. StartTag (record { name = name_here i; attributes = attributes; text = words_here i; left = length rest })), behind_is ∙ ap (λ n. behind_content (raw_of n) rest) name_here);
+      tag = (whole ∙ ap (λ n. StartTag (tag_of n attributes rest)) name_here, behind_is ∙ ap (λ n. behind_content (raw_of n) rest) name_here);
     }

@@ -8,7 +8,8 @@ use Rattle.std.specs.Str.{bytes_eq, chars}
 use Rattle.std.specs.Char.Escape.{encode_utf16}
 use Rattle.mug_text.specs.Text.{IsText}
 use Rattle.html_profile.specs.Names.{firsts}
-use Rattle.html_profile.specs.Tree.{units}
+use Rattle.html_profile.specs.Tree.{State, units, innermost, opened, element_of, script_of, handlers_of, name_at, with_element}
+use Rattle.html_profile.specs.declared.piece.Tag.{Tag}
 use Rattle.html_profile.specs.declared.tag.Attribute.{Attribute}
 use Rattle.html_profile.proofs.Attributes.{cut_at}
 
@@ -63,3 +64,9 @@ module _ (attributes : List Attribute) (i : ℕ) (a : Attribute) (kept after : L
       kept_same attributes i a (pointed kept) names inside here so_far again
       ∙ ap (λ n. pointed kept ++ firsts (n ∷ names) (drop (i + 1) attributes)) (sym name_is)
       ∙ ap (λ l. pointed l ++ firsts (name ∷ names) (drop (i + 1) attributes)) (sym same)
+
+-- a state that has a start tag's element, and all that it adds
+pub added : (total : ℕ) (s t : State) (tag : Tag) → t.nodes ≡ s.nodes ++ element_of (innermost s.open_elements) tag ∷ [] → t.open_elements ≡ opened (length s.nodes) tag.name s.open_elements → t.words ≡ tag.text
+    → t.scripts ≡ s.scripts ++ script_of total (length s.nodes) tag → t.handlers ≡ s.handlers ++ handlers_of total (length s.nodes) (firsts [] tag.attributes)
+    → t.names ≡ s.names ++ map (name_at total (length s.nodes)) (firsts [] tag.attributes) → t ≡ with_element total s tag
+added total s t tag nodes opens words scripts handlers names = λ i. record { nodes = nodes i; open_elements = opens i; words = words i; scripts = scripts i; handlers = handlers i; names = names i }

@@ -8,6 +8,10 @@ pub mod Tree
 pub mod Seen
 pub mod Standing
 pub mod Building
+pub mod InsertedScript
+pub mod ScriptPlaces
 pub mod Page
 pub mod PageFault
 pub mod Numbering
+pub mod Coherence
+pub mod Decoding

@@ -3,16 +3,30 @@ use Rattle.std.specs.Prelude.{ℕ, Bool, true, ◌&&◌, ◌||◌, List, [], ◌
 use Rattle.std.specs.List.{list_any}
 use Rattle.std.specs.Str.{bytes_eq}
 use Rattle.html_profile.specs.Marks.{lower}
-use Rattle.html_profile.specs.declared.names.TheConstants.{VOID, HANDLERS}
 use Rattle.html_profile.specs.declared.tag.Attribute.{Attribute}
 
--- an element without an end tag (13.1.2)
-abbrev pub is_void : List ℕ → Bool
-is_void name = list_any (λ void. bytes_eq void.now name) VOID
+-- the elements without an end tag (13.1.2, "Void elements", and `param`, which 13.2.6.4.7 closes at once too)
+abbrev pub void_names : List (List ℕ)
+void_names =
+    codes "area" ∷ codes "base" ∷ codes "br" ∷ codes "col" ∷ codes "embed" ∷ codes "hr" ∷
+    codes "img" ∷ codes "input" ∷ codes "link" ∷ codes "meta" ∷ codes "param" ∷ codes "source" ∷
+    codes "track" ∷ codes "wbr" ∷ []
 
--- an attribute whose value is a script
+abbrev pub is_void : List ℕ → Bool
+is_void name = list_any (λ void. bytes_eq void name) void_names
+
+-- the attributes whose value is a script (8.1.8.2, "Event handlers", those of this profile)
+abbrev pub handler_names : List (List ℕ)
+handler_names =
+    codes "onabort" ∷ codes "onblur" ∷ codes "onchange" ∷ codes "onclick" ∷ codes "ondblclick" ∷
+    codes "onerror" ∷ codes "onfocus" ∷ codes "oninput" ∷ codes "onkeydown" ∷
+    codes "onkeypress" ∷ codes "onkeyup" ∷ codes "onload" ∷ codes "onmousedown" ∷
+    codes "onmousemove" ∷ codes "onmouseout" ∷ codes "onmouseover" ∷ codes "onmouseup" ∷
+    codes "onreadystatechange" ∷ codes "onsubmit" ∷ []
+
+-- an attribute whose value is a script; a name in ASCII has the same bytes and units, so this is said of either
 abbrev pub is_handler : List ℕ → Bool
-is_handler name = list_any (λ handler. bytes_eq handler.now name) HANDLERS
+is_handler name = list_any (λ handler. bytes_eq handler name) handler_names
 
 -- the value of the attribute of this name
 abbrev pub value_named : List ℕ → List Attribute → Option (List ℕ)

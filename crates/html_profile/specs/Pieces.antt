@@ -13,6 +13,7 @@ use Rattle.html_profile.specs.declared.mark.Mark.TheVariants.{CommentEnd, TagEnd
 use Rattle.html_profile.specs.declared.piece.Kind.{Kind}
 use Rattle.html_profile.specs.declared.piece.Kind.TheVariants.{Comment, Other, Ending, Starting, Words}
 use Rattle.html_profile.specs.declared.tag.Attribute.{Attribute}
+use Rattle.html_profile.specs.declared.piece.Tag.{Tag}
 use Rattle.html_profile.specs.declared.piece.Piece.{Piece}
 use Rattle.html_profile.specs.declared.piece.Piece.TheVariants.{Dropped, Text, EndTag, StartTag}
 
@@ -43,20 +44,34 @@ raw_text Style bytes = lines bytes
 raw_text Title bytes = plain bytes
 raw_text Textarea bytes = plain bytes
 
--- a start tag's text, and what stands behind it: the raw text up to the element's end tag, nothing for other elements
-abbrev pub content : Option Raw → List ℕ → List ℕ
-content None rest = []
-content (Some raw) rest = raw_text raw (before (RawEnd raw) rest)
+-- the raw text behind a start tag, up to the element's end tag, as it stands there and as it reads, and what stands behind it;
+-- nothing for other elements
+abbrev pub source : Option Raw → List ℕ → List ℕ
+source None rest = []
+source (Some raw) rest = before (RawEnd raw) rest
+
+abbrev pub read_source : Option Raw → List ℕ → List ℕ
+read_source None bytes = []
+read_source (Some raw) bytes = raw_text raw bytes
 
 abbrev pub behind_content : Option Raw → List ℕ → List ℕ
 behind_content None rest = rest
 behind_content (Some raw) rest = from (RawEnd raw) rest
 
+abbrev pub tag_of : List ℕ → List Attribute → List ℕ → Tag
+tag_of name attributes rest = record {
+  name = name;
+  attributes = attributes;
+  source = source (raw_of name) rest;
+  text = read_source (raw_of name) (source (raw_of name) rest);
+  left = length rest;
+}
+
 -- the start tag with this name and these attributes, behind which this stands: an element, or nothing where the end cuts the tag off
 abbrev pub IsTag : List ℕ → List Attribute → Option (List ℕ) → Piece → List ℕ → Type 0
 IsTag name attributes None piece behind = (piece ≡ Dropped) × (behind ≡ [])
 IsTag name attributes (Some rest) piece behind =
-    (piece ≡ StartTag (record { name = name; attributes = attributes; text = content (raw_of name) rest; left = length rest })) × (behind ≡ behind_content (raw_of name) rest)
+    (piece ≡ StartTag (tag_of name attributes rest)) × (behind ≡ behind_content (raw_of name) rest)
 
 -- the name of a start tag
 abbrev pub tag_name : List ℕ → List ℕ

@@ -15,6 +15,7 @@ use Rattle.html_profile.specs.declared.document.Content.TheVariants.{Document as
 use Rattle.html_profile.specs.declared.document.DocAttribute.{DocAttribute}
 use Rattle.html_profile.specs.declared.document.ScriptAt.{ScriptAt}
 use Rattle.html_profile.specs.declared.document.HandlerAt.{HandlerAt}
+use Rattle.html_profile.specs.declared.document.NameAt.{NameAt}
 use Rattle.html_profile.specs.declared.tree.Open.{Open}
 
 -- the 16-bit units of a text in UTF-8
@@ -28,6 +29,7 @@ pub record State : Type 0 where
   pub words : List ℕ
   pub scripts : List ScriptAt
   pub handlers : List HandlerAt
+  pub names : List NameAt
 
 -- the innermost open element, or the document
 abbrev pub innermost : List Open → ℕ
@@ -63,7 +65,13 @@ opened node name open_ones = if is_void name then open_ones else record { node =
 abbrev pub script_of : ℕ → ℕ → Tag → List ScriptAt
 script_of total node tag =
     if is_run tag.name tag.attributes
-    then record { node = node; src = option_map units (value_named (codes "src") tag.attributes); text = units tag.text; at = total - tag.left } ∷ []
+    then record {
+      node = node;
+      src = option_map units (value_named (codes "src") tag.attributes);
+      text = units tag.text;
+      source = tag.source;
+      at = total - tag.left;
+    } ∷ []
     else []
 
 abbrev pub handler_at : ℕ → ℕ → Attribute → HandlerAt
@@ -77,6 +85,10 @@ handler_of total node a = if is_handler a.name then handler_at total node a ∷ 
 abbrev pub handlers_of : ℕ → ℕ → List Attribute → List HandlerAt
 handlers_of total node attributes = flat_map (handler_of total node) attributes
 
+-- where an attribute's name stands
+abbrev pub name_at : ℕ → ℕ → Attribute → NameAt
+name_at total node a = record { node = node; name = units a.name; at = total - a.left }
+
 -- the element of a start tag
 abbrev pub element_of : ℕ → Tag → DocNode
 element_of parent tag = record { parent = Some parent; content = element (units tag.name) (map shown_attribute (firsts [] tag.attributes)) }
@@ -89,6 +101,7 @@ with_element total s tag = record {
   words = tag.text;
   scripts = s.scripts ++ script_of total (length s.nodes) tag;
   handlers = s.handlers ++ handlers_of total (length s.nodes) (firsts [] tag.attributes);
+  names = s.names ++ map (name_at total (length s.nodes)) (firsts [] tag.attributes);
 }
 
 -- what has been read with one more piece
@@ -100,7 +113,7 @@ step total s (StartTag tag) = with_element total (settled s) tag
 
 -- the document alone
 abbrev pub beginning : State
-beginning = record { nodes = record { parent = None; content = document } ∷ []; open_elements = []; words = []; scripts = []; handlers = [] }
+beginning = record { nodes = record { parent = None; content = document } ∷ []; open_elements = []; words = []; scripts = []; handlers = []; names = [] }
 
 -- what the pieces make
 abbrev pub made : ℕ → List Piece → State

@@ -1,5 +1,5 @@
 // A page as a tree.
-use mug_text::{JText, Listed};
+use mug_text::{Bytes, JText, Listed};
 
 /// An attribute of an element.
 #[derive(Debug, Drop)]
@@ -37,6 +37,8 @@ pub struct ScriptAt {
     /// Where there is one, the text is ignored.
     pub src: Option<JText>,
     pub text: JText,
+    /// The bytes that read as the text.
+    pub source: Bytes,
     /// The offset of the text's first byte in the page without the inserted script.
     pub at: usize,
 }
@@ -48,6 +50,17 @@ pub struct HandlerAt {
     pub node: u32,
     pub name: JText,
     pub text: JText,
+    /// The offset of the name's first byte in the page without the inserted script.
+    pub at: usize,
+}
+
+/// Where an attribute of an element stands.
+#[derive(Debug, Drop)]
+pub struct NameAt {
+    /// The number of the element.
+    pub node: u32,
+    /// The attribute's name.
+    pub name: JText,
     /// The offset of the name's first byte in the page without the inserted script.
     pub at: usize,
 }

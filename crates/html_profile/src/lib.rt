@@ -3,6 +3,7 @@
 
 mod document;
 mod front;
+mod laws;
 mod mark;
 mod names;
 mod page;
@@ -13,11 +14,11 @@ mod seen;
 mod standing;
 mod tag;
 mod tree;
+mod unit_places;
 
-pub use document::{Content, DocAttribute, DocNode, HandlerAt, ScriptAt};
+pub use document::{Content, DocAttribute, DocNode, HandlerAt, NameAt, ScriptAt};
 pub use front::first_place;
-pub use page::{Document, HtmlFault, read_html};
+pub use laws::tables_are_spelled;
+pub use names::{HANDLERS, is_handler_name};
+pub use page::{Document, HtmlFault, read_html, read_whole};
 pub use prelude::PRELUDE;
-
-#[cfg(test)]
-mod tests;

@@ -1,11 +1,12 @@
 // What the names and attributes of elements say.
-ghost use Rattle.std.specs.Prelude.{◌≡◌, List, [], codes, IfOk, Option};
+ghost use Rattle.std.specs.Prelude.{◌≡◌, List, [], codes, IfOk, Option, map};
 ghost use Rattle.std.specs.List.{list_any};
 ghost use Rattle.std.specs.Option.{option_map};
 ghost use Rattle.std.specs.Str.{bytes_eq};
-ghost use Rattle.html_profile.specs.Names.{is_void, is_handler, value_named, is_type_run, is_run, firsts};
+ghost use Rattle.html_profile.specs.Names.{void_names, handler_names, is_void, is_handler, value_named, is_type_run, is_run, firsts};
 
 use crate::tag::{Attribute, lower};
+use mug_text::JText;
 use std::alloc::{AllocError, Global};
 
 /// The elements without an end tag.
@@ -14,8 +15,8 @@ pub(crate) const VOID: [&str; 14] = [
     "track", "wbr",
 ];
 
-/// The attributes whose value is a script.
-pub(crate) const HANDLERS: [&str; 19] = [
+/// The names of attributes whose value is a script, and of the properties that hold such handlers.
+pub const HANDLERS: [&str; 19] = [
     "onabort",
     "onblur",
     "onchange",
@@ -54,6 +55,35 @@ pub(crate) fn is_handler(name: &[u8]) -> bool
     ensures { result ≡ is_handler name.now }
 {
     is_among(&HANDLERS, name)
+}
+
+// Whether a text is this word in ASCII.
+fn is_word(text: &[u16], word: &[u8]) -> bool
+    ensures { result ≡ bytes_eq word.now text.now }
+{
+    if text.len() != word.len() {
+        return false;
+    }
+    for (index, byte) in word.iter().enumerate() {
+        if text[index] != u16::from(*byte) {
+            return false;
+        }
+    }
+    true
+}
+
+// Whether a text in units is one of these words.
+fn has_units(words: &[&str], text: &[u16]) -> bool
+    ensures { result ≡ list_any (λ word. bytes_eq word.now text.now) words.now }
+{
+    words.iter().any(|word| is_word(text, word.as_bytes()))
+}
+
+/// Whether an attribute or property of this name holds a handler.
+pub fn is_handler_name(name: &JText) -> bool
+    ensures { result ≡ is_handler name.now }
+{
+    has_units(&HANDLERS, name.as_slice())
 }
 
 /// The value of the attribute of this name.

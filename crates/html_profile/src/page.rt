@@ -1,24 +1,28 @@
 // Reading a page.
-ghost use Rattle.std.specs.Prelude.{◌≡◌, ℕ, ◌<◌, ◌≤◌, ◌^◌, List, length, vec_len, drop, IfOk, IfErr, OnOk, IfSome, MatchOption, IsTrue, slice_get, Some};
+ghost use Rattle.std.specs.Prelude.{◌≡◌, ℕ, ◌+◌, ◌<◌, ◌≤◌, ◌^◌, List, length, vec_len, drop, IfOk, IfErr, OnOk, IfSome, MatchOption, IsTrue, slice_get, Some};
+ghost use Rattle.std.specs.Str.{IsUtf8};
 ghost use Rattle.mug_text.specs.Text.{IsText};
 ghost use Rattle.html_profile.specs.FirstPlace.{mark_len};
 ghost use Rattle.html_profile.specs.Building.{state_of};
-ghost use Rattle.html_profile.specs.Page.{Page, IsPage, IsTree, opens_prelude, without_prelude};
+ghost use Rattle.html_profile.specs.Page.{Page, IsPage, IsWholePage, IsTree, opens_prelude, without_prelude, page_of};
 ghost use Rattle.html_profile.specs.Numbering.{IsNumbered};
-ghost use Rattle.html_profile.specs.PageFault.{Refuses};
+ghost use Rattle.html_profile.specs.Coherence.{NameElements, HandleElements, BelongToElements};
+ghost use Rattle.html_profile.specs.ScriptPlaces.{unit_place};
+ghost use Rattle.html_profile.specs.PageFault.{longest_page, Refuses};
 
-use crate::document::{DocNode, HandlerAt, ScriptAt};
+use crate::document::{DocNode, HandlerAt, NameAt, ScriptAt};
 use crate::front::{first_place, mark_len};
 use crate::piece::piece_at;
 use crate::prelude::PRELUDE;
 use crate::tree::Builder;
-use mug_text::{JText, TextFault};
+use crate::unit_places::unit_place;
+use mug_text::{JText, PAGE_LIMIT, TextFault};
 use std::alloc::{AllocError, Global};
 use std::marker::Model;
 use thiserror::Error;
 
 /// The longest page: 4 MiB, and the inserted script.
-const LIMIT: usize = 4_194_754;
+const LIMIT: usize = PAGE_LIMIT + PRELUDE_LEN;
 
 // The length of the inserted script.
 const PRELUDE_LEN: usize = 450;
@@ -52,19 +56,22 @@ pub struct Document {
     nodes: Vec<DocNode>,
     scripts: Vec<ScriptAt>,
     handlers: Vec<HandlerAt>,
+    names: Vec<NameAt>,
 }
 
 impl Model for Document {
     ghost use Rattle.html_profile.specs.Page.{Page};
-    ghost use Rattle.std.specs.Prelude.{◌<◌, ◌^◌, length};
 
     ghost Value = { Page };
 
-    ghost use Rattle.html_profile.specs.Numbering.{IsNumbered};
+    ghost use Rattle.std.specs.Prelude.{◌<◌, ◌^◌, length};
+    ghost use Rattle.html_profile.specs.Coherence.{IsCoherent};
+    ghost use Rattle.html_profile.specs.PageFault.{longest_page};
 
-    ghost view = { λ d. record { nodes = d.nodes.items; scripts = d.scripts.items; handlers = d.handlers.items } };
+    ghost view = { λ d. record { nodes = d.nodes.items; scripts = d.scripts.items; handlers = d.handlers.items; names = d.names.items } };
 
-    ghost invariant = { λ d. (length d.nodes.items < 2 ^ 32) × IsNumbered d.nodes.items };
+    ghost invariant = { λ d. (length d.nodes.items < 2 ^ 32)
+        × IsCoherent longest_page (record { nodes = d.nodes.items; scripts = d.scripts.items; handlers = d.handlers.items; names = d.names.items }) };
 }
 
 impl Document {
@@ -86,16 +93,35 @@ impl Document {
 
     /// The scripts that are run, in the order of their elements.
     pub fn scripts(&self) -> &[ScriptAt]
-        ensures { result.now ≡ self.now.scripts }
+        ensures is { result.now ≡ self.now.scripts }
+        ensures elements { NameElements self.now.nodes result.now }
     {
         &self.scripts
     }
 
     /// The handler attributes, in the order of the page.
     pub fn handlers(&self) -> &[HandlerAt]
-        ensures { result.now ≡ self.now.handlers }
+        ensures is { result.now ≡ self.now.handlers }
+        ensures elements { HandleElements self.now.nodes result.now }
     {
         &self.handlers
+    }
+
+    /// Where the attributes stand that the tree has, in the order of the page.
+    pub fn names(&self) -> &[NameAt]
+        ensures is { result.now ≡ self.now.names }
+        ensures elements { BelongToElements self.now.nodes result.now }
+    {
+        &self.names
+    }
+
+    /// The offset of the byte at which a unit of a script's text begins, counted as the script's place is.
+    pub fn script_byte(&self, script: usize, unit: usize) -> usize
+        requires { script < length self.now.scripts }
+        ensures { IfSome (slice_get self.now.scripts script) (λ s. result ≡ s.at + unit_place unit s.source) }
+    {
+        let found = &self.scripts[script];
+        found.at + unit_place(found.source.as_slice(), unit)
     }
 }
 
@@ -109,7 +135,8 @@ fn opens_prelude(text: &[u8]) -> bool
 
 // Builds what the pieces of the text make, in a page of this length.
 fn build(alloc: Global, total: usize, text: &[u8]) -> Result<Builder, AllocError>
-    requires { length text.now ≤ LIMIT }
+    requires short { length text.now ≤ LIMIT }
+    requires decodes { IsUtf8 text.now }
     ensures tree { IfOk result (λ builder. IsTree total text.now (state_of builder)) }
     ensures room { IfOk result (λ builder. vec_len builder.nodes < 2 ^ 32) }
 {
@@ -140,12 +167,15 @@ fn without_prelude(alloc: Global, bytes: &[u8]) -> Result<Option<Vec<u8>>, Alloc
     Ok(Some(page))
 }
 
-// Refuses bytes that are no UTF-8. The whole page is read as one text, so that the first fault counts.
-fn check_text(alloc: Global, bytes: &[u8]) -> Result<(), HtmlFault>
-    requires { length bytes.now ≤ LIMIT }
-    ensures ok { OnOk result ((text : List ℕ) × IsText bytes.now text) }
+// Refuses what is too long, and bytes that are no UTF-8. The whole page is read as one text, so that the first fault counts.
+fn check_page(alloc: Global, bytes: &[u8]) -> Result<(), HtmlFault>
+    ensures size { OnOk result (length bytes.now ≤ longest_page) }
+    ensures text { OnOk result ((text : List ℕ) × IsText bytes.now text) }
     ensures err { IfErr result (λ fault. Refuses fault bytes.now) }
 {
+    if bytes.len() > LIMIT {
+        return Err(HtmlFault::TooLarge);
+    }
     match JText::from_utf8(alloc, bytes) {
         Ok(_) => Ok(()),
         Err(TextFault::NotUtf8 { at }) => Err(HtmlFault::NotUtf8 { at }),
@@ -155,9 +185,11 @@ fn check_text(alloc: Global, bytes: &[u8]) -> Result<(), HtmlFault>
 
 // What has been built of a page.
 fn built(alloc: Global, bytes: &[u8]) -> Result<Builder, AllocError>
-    requires { length bytes.now ≤ LIMIT }
+    requires short { length bytes.now ≤ LIMIT }
+    requires decodes { IsUtf8 bytes.now }
     ensures tree { IfOk result (λ builder. IsTree (length (without_prelude bytes.now)) (drop (mark_len bytes.now) (without_prelude bytes.now)) (state_of builder)) }
     ensures room { IfOk result (λ builder. vec_len builder.nodes < 2 ^ 32) }
+    ensures short { OnOk result (length (without_prelude bytes.now) ≤ LIMIT) }
 {
     let mark = mark_len(bytes);
     match without_prelude(alloc, bytes)? {
@@ -166,27 +198,48 @@ fn built(alloc: Global, bytes: &[u8]) -> Result<Builder, AllocError>
     }
 }
 
-/// The page that these bytes are.
-pub fn read_html(alloc: Global, bytes: &[u8]) -> Result<Document, HtmlFault>
-    ensures page { IfOk result (λ page. IsPage bytes.now page) }
-    ensures only { IfOk result (λ page. (other : Page) → IsPage bytes.now other → other ≡ page) }
-    ensures size { OnOk result (length bytes.now ≤ 4194754) }
-    ensures text { OnOk result ((text : List ℕ) × IsText bytes.now text) }
-    ensures refused { IfErr result (λ fault. Refuses fault bytes.now) }
+// The page that was built.
+fn page_of(builder: Builder) -> Document
+    requires made { (total : ℕ) × (text : List ℕ) × (total ≤ LIMIT) × IsTree total text (state_of builder) }
+    requires room { vec_len builder.nodes < 2 ^ 32 }
+    ensures { result ≡ page_of (state_of builder) }
 {
-    if bytes.len() > LIMIT {
-        return Err(HtmlFault::TooLarge);
-    }
-    check_text(alloc, bytes)?;
     let Builder {
         nodes,
         scripts,
         handlers,
+        names,
         ..
-    } = built(alloc, bytes)?;
-    Ok(Document {
+    } = builder;
+    Document {
         nodes,
         scripts,
         handlers,
-    })
+        names,
+    }
+}
+
+/// The page that these bytes are; the inserted script at the first place is passed over.
+pub fn read_html(alloc: Global, bytes: &[u8]) -> Result<Document, HtmlFault>
+    ensures page { IfOk result (λ page. IsPage bytes.now page) }
+    ensures only { IfOk result (λ page. (other : Page) → IsPage bytes.now other → other ≡ page) }
+    ensures size { OnOk result (length bytes.now ≤ longest_page) }
+    ensures text { OnOk result ((text : List ℕ) × IsText bytes.now text) }
+    ensures refused { IfErr result (λ fault. Refuses fault bytes.now) }
+{
+    check_page(alloc, bytes)?;
+    Ok(page_of(built(alloc, bytes)?))
+}
+
+/// The page that these bytes are with nothing taken out: the inserted script is a script like others, and places count every byte.
+pub fn read_whole(alloc: Global, bytes: &[u8]) -> Result<Document, HtmlFault>
+    ensures page { IfOk result (λ page. IsWholePage bytes.now page) }
+    ensures only { IfOk result (λ page. (other : Page) → IsWholePage bytes.now other → other ≡ page) }
+    ensures size { OnOk result (length bytes.now ≤ longest_page) }
+    ensures text { OnOk result ((text : List ℕ) × IsText bytes.now text) }
+    ensures refused { IfErr result (λ fault. Refuses fault bytes.now) }
+{
+    check_page(alloc, bytes)?;
+    let (_, text) = bytes.split_at(mark_len(bytes));
+    Ok(page_of(build(alloc, bytes.len(), text)?))
 }

@@ -2,7 +2,7 @@
 ghost use Rattle.std.specs.Prelude.{◌≡◌, ◌<◌, ◌≤◌, length, drop, IfOk};
 ghost use Rattle.std.specs.Char.{is_ascii_alphabetic};
 ghost use Rattle.html_profile.specs.Marks.{begins, from};
-ghost use Rattle.html_profile.specs.Pieces.{kind_of, markup_kind, raw_of, raw_text, content, behind_content, IsStartTag, IsPiece, end_tag};
+ghost use Rattle.html_profile.specs.Pieces.{kind_of, markup_kind, raw_of, raw_text, source, read_source, behind_content, IsStartTag, IsPiece, end_tag};
 
 use crate::mark::{Mark, Raw};
 use crate::plain::{lines, plain};
@@ -26,6 +26,8 @@ pub(crate) enum Kind {
 pub(crate) struct Tag {
     pub(crate) name: Bytes,
     pub(crate) attributes: Listed<Attribute>,
+    /// The bytes that read as the text.
+    pub(crate) source: Bytes,
     pub(crate) text: Bytes,
     /// How many bytes there are from the tag's end to the page's end.
     pub(crate) left: usize,
@@ -101,18 +103,25 @@ fn raw_text(alloc: Global, raw: Raw, bytes: &[u8]) -> Result<Vec<u8>, AllocError
     }
 }
 
-// The raw text behind a start tag, and what stands behind it.
-fn content(alloc: Global, raw: Option<Raw>, rest: &[u8]) -> Result<(Bytes, &[u8]), AllocError>
-    ensures text { IfOk result (λ found. found.0 ≡ content raw rest.now) }
-    ensures behind { IfOk result (λ found. found.1.now ≡ behind_content raw rest.now) }
-    ensures within { IfOk result (λ found. length found.1.now ≤ length rest.now) }
+// The raw text behind a start tag, as it stands there, and what stands behind it.
+fn split_source(raw: Option<Raw>, rest: &[u8]) -> (&[u8], &[u8])
+    ensures source { result.0.now ≡ source raw rest.now }
+    ensures behind { result.1.now ≡ behind_content raw rest.now }
+    ensures within { length result.1.now ≤ length rest.now }
 {
     match raw {
-        Some(raw) => {
-            let (bytes, behind) = Mark::RawEnd(raw).split(rest);
-            Ok((Bytes::from_vec(raw_text(alloc, raw, bytes)?), behind))
-        }
-        None => Ok((Bytes::from_vec(Vec::new(alloc)), rest)),
+        Some(raw) => Mark::RawEnd(raw).split(rest),
+        None => (&rest[..0], rest),
+    }
+}
+
+// What the raw text of an element reads as.
+fn read_source(alloc: Global, raw: Option<Raw>, bytes: &[u8]) -> Result<Vec<u8>, AllocError>
+    ensures { IfOk result (λ text. text.items ≡ read_source raw bytes.now) }
+{
+    match raw {
+        Some(raw) => raw_text(alloc, raw, bytes),
+        None => Ok(Vec::new(alloc)),
     }
 }
 
@@ -142,11 +151,15 @@ fn start_tag(alloc: Global, text: &[u8]) -> Result<(Piece, &[u8]), AllocError>
     let Some(rest) = rest else {
         return Ok((Piece::Dropped, &text[text.len()..]));
     };
-    let (text, behind) = content(alloc, raw_of(name.as_slice()), rest)?;
+    let raw = raw_of(name.as_slice());
+    let (source, behind) = split_source(raw, rest);
+    let text = read_source(alloc, raw, source)?;
+    let source = source.to_vec(alloc)?;
     let tag = Tag {
         name,
         attributes,
-        text,
+        source: Bytes::from_vec(source),
+        text: Bytes::from_vec(text),
         left: rest.len(),
     };
     Ok((Piece::StartTag(tag), behind))

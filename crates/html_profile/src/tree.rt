@@ -1,17 +1,19 @@
 // The tree that a page's pieces make.
-ghost use Rattle.std.specs.Prelude.{◌≡◌, ◌+◌, ◌-◌, ◌<◌, ◌≤◌, ◌^◌, ◌++◌, List, [], map, reverse, take, length, vec_len, IfOk, OnOk, Some, None, MatchOption};
+ghost use Rattle.std.specs.Str.{IsUtf8};
+ghost use Rattle.html_profile.specs.Decoding.{DecodingAttribute, DecodingTag, DecodingPiece};
+ghost use Rattle.std.specs.Prelude.{◌≡◌, All, ◌+◌, ◌-◌, ◌<◌, ◌≤◌, ◌^◌, ◌++◌, List, [], map, reverse, take, length, vec_len, IfOk, OnOk, Some, None, MatchOption};
 ghost use Rattle.html_profile.specs.Names.{firsts};
-ghost use Rattle.html_profile.specs.Tree.{units, settled, innermost, closed, shown_attribute, handler_of, handlers_of, script_of, element_of, with_element, with_closed, step, made, beginning};
+ghost use Rattle.html_profile.specs.Tree.{units, settled, innermost, closed, shown_attribute, handler_of, handlers_of, name_at, script_of, element_of, with_element, with_closed, step, made, beginning};
 ghost use Rattle.html_profile.specs.Building.{state_of, IsKnown};
 ghost use Rattle.html_profile.specs.Standing.{HasStanding, names_of};
 
-use crate::document::{Content, DocAttribute, DocNode, HandlerAt, ScriptAt};
+use crate::document::{Content, DocAttribute, DocNode, HandlerAt, NameAt, ScriptAt};
 use crate::names::{is_handler, is_run, is_void, value_named};
 use crate::piece::{Piece, Tag};
 use crate::seen::Seen;
 use crate::standing::Standing;
 use crate::tag::Attribute;
-use mug_text::{Bytes, JText, Listed};
+use mug_text::{Bytes, JText, Listed, TextFault};
 use std::alloc::{AllocError, Global};
 
 /// An open element.
@@ -35,15 +37,18 @@ pub(crate) struct Builder {
     words: Vec<u8>,
     pub(crate) scripts: Vec<ScriptAt>,
     pub(crate) handlers: Vec<HandlerAt>,
+    pub(crate) names: Vec<NameAt>,
 }
 
 // The units of a text in UTF-8.
 fn text_of(alloc: Global, bytes: &[u8]) -> Result<JText, AllocError>
+    requires { IsUtf8 bytes.now }
     ensures { IfOk result (λ text. text ≡ units bytes.now) }
 {
     match JText::from_utf8(alloc, bytes) {
         Ok(text) => Ok(text),
-        Err(_) => Err(AllocError),
+        Err(TextFault::NotUtf8 { .. }) => unreachable!(),
+        Err(TextFault::NoMemory) => Err(AllocError),
     }
 }
 
@@ -62,6 +67,7 @@ fn firsts(alloc: Global, attributes: &[Attribute]) -> Result<Vec<&Attribute>, Al
 }
 
 fn shown_attribute(alloc: Global, attribute: &Attribute) -> Result<DocAttribute, AllocError>
+    requires { DecodingAttribute attribute.now }
     ensures { IfOk result (λ shown. shown ≡ shown_attribute attribute.now) }
 {
     Ok(DocAttribute {
@@ -71,6 +77,7 @@ fn shown_attribute(alloc: Global, attribute: &Attribute) -> Result<DocAttribute,
 }
 
 fn shown(alloc: Global, attributes: &[&Attribute]) -> Result<Vec<DocAttribute>, AllocError>
+    requires { All DecodingAttribute (map (λ a. a.now) attributes.now) }
     ensures { IfOk result (λ shown. shown.items ≡ map shown_attribute (map (λ a. a.now) attributes.now)) }
 {
     let mut shown = Vec::new(alloc);
@@ -115,6 +122,7 @@ fn push_handler(
     attribute: &Attribute,
     handlers: &mut Vec<HandlerAt>,
 ) -> Result<(), AllocError>
+    requires { DecodingAttribute attribute.now }
     ensures { OnOk result (handlers.new.items ≡ handlers.old.items ++ handler_of total node attribute.now) }
 {
     if !is_handler(attribute.name.as_slice()) {
@@ -136,10 +144,31 @@ fn push_handlers(
     attributes: &[&Attribute],
     handlers: &mut Vec<HandlerAt>,
 ) -> Result<(), AllocError>
+    requires { All DecodingAttribute (map (λ a. a.now) attributes.now) }
     ensures { OnOk result (handlers.new.items ≡ handlers.old.items ++ handlers_of total node (map (λ a. a.now) attributes.now)) }
 {
     for attribute in attributes {
         push_handler(alloc, total, node, attribute, handlers)?;
+    }
+    Ok(())
+}
+
+fn push_names(
+    alloc: Global,
+    total: usize,
+    node: u32,
+    attributes: &[&Attribute],
+    names: &mut Vec<NameAt>,
+) -> Result<(), AllocError>
+    requires { All DecodingAttribute (map (λ a. a.now) attributes.now) }
+    ensures { OnOk result (names.new.items ≡ names.old.items ++ map (name_at total node) (map (λ a. a.now) attributes.now)) }
+{
+    for attribute in attributes {
+        names.push(NameAt {
+            node,
+            name: text_of(alloc, attribute.name.as_slice())?,
+            at: total.saturating_sub(attribute.left),
+        })?;
     }
     Ok(())
 }
@@ -151,6 +180,7 @@ fn push_script(
     tag: &Tag,
     scripts: &mut Vec<ScriptAt>,
 ) -> Result<(), AllocError>
+    requires { DecodingTag tag.now }
     ensures { OnOk result (scripts.new.items ≡ scripts.old.items ++ script_of total node tag.now) }
 {
     let attributes = tag.attributes.as_slice();
@@ -165,6 +195,7 @@ fn push_script(
         node,
         src,
         text: text_of(alloc, tag.text.as_slice())?,
+        source: Bytes::from_vec(tag.source.as_slice().to_vec(alloc)?),
         at: total.saturating_sub(tag.left),
     })?;
     Ok(())
@@ -177,7 +208,8 @@ fn element_of(
     tag: &Tag,
     attributes: &[&Attribute],
 ) -> Result<DocNode, AllocError>
-    requires { map (λ a. a.now) attributes.now ≡ firsts [] tag.now.attributes }
+    requires firsts { map (λ a. a.now) attributes.now ≡ firsts [] tag.now.attributes }
+    requires decodes { DecodingTag tag.now }
     ensures { IfOk result (λ node. node ≡ element_of parent tag.now) }
 {
     let content = Content::Element {
@@ -197,6 +229,7 @@ impl Builder {
         ensures total { IfOk result (λ builder. builder.total ≡ total) }
         ensures nodes { IfOk result (λ builder. vec_len builder.nodes ≡ 1) }
         ensures known { IfOk result IsKnown }
+        ensures decodes { IfOk result (λ builder. IsUtf8 builder.words.items) }
     {
         let mut nodes = Vec::new(alloc);
         nodes.push(DocNode {
@@ -212,6 +245,7 @@ impl Builder {
             words: Vec::new(alloc),
             scripts: Vec::new(alloc),
             handlers: Vec::new(alloc),
+            names: Vec::new(alloc),
         })
     }
 
@@ -227,11 +261,13 @@ impl Builder {
 
     // Makes the text behind the last tag a node.
     pub(crate) fn settle(&mut self) -> Result<(), AllocError>
+        requires { IsUtf8 self.old.words.items }
         ensures is { OnOk result (state_of self.new ≡ settled (state_of self.old)) }
         ensures total { self.new.total ≡ self.old.total }
         ensures elements { self.new.elements ≡ self.old.elements }
         ensures standing { self.new.standing ≡ self.old.standing }
         ensures words { OnOk result (self.new.words.items ≡ []) }
+        ensures decodes { OnOk result (IsUtf8 self.new.words.items) }
         ensures nodes { vec_len self.new.nodes ≤ vec_len self.old.nodes + 1 }
     {
         if self.words.is_empty() {
@@ -249,11 +285,13 @@ impl Builder {
 
     // Closes all up to the nearest open element of this name.
     fn close(&mut self, name: &[u8]) -> Result<(), AllocError>
-        requires { IsKnown self.old }
+        requires known { IsKnown self.old }
+        requires decodes { IsUtf8 self.old.words.items }
         ensures is { OnOk result (state_of self.new ≡ with_closed (state_of self.old) (closed name.now (state_of self.old).open_elements)) }
         ensures total { self.new.total ≡ self.old.total }
         ensures nodes { vec_len self.new.nodes ≤ vec_len self.old.nodes + 1 }
         ensures known { OnOk result (IsKnown self.new) }
+        ensures decodes { OnOk result (IsUtf8 self.new.words.items) }
     {
         if !self.standing.has(name) {
             return Ok(());
@@ -269,9 +307,11 @@ impl Builder {
 
     // Adds all of a start tag but its element, which it hands out.
     fn describe(&mut self, node: u32, tag: &Tag) -> Result<DocNode, AllocError>
+        requires { DecodingTag tag.now }
         ensures element { IfOk result (λ made. made ≡ element_of (innermost (state_of self.old).open_elements) tag.now) }
         ensures scripts { OnOk result (self.new.scripts.items ≡ self.old.scripts.items ++ script_of self.old.total node tag.now) }
         ensures handlers { OnOk result (self.new.handlers.items ≡ self.old.handlers.items ++ handlers_of self.old.total node (firsts [] tag.now.attributes)) }
+        ensures names { OnOk result (self.new.names.items ≡ self.old.names.items ++ map (name_at self.old.total node) (firsts [] tag.now.attributes)) }
         ensures words { OnOk result (self.new.words.items ≡ self.old.words.items ++ tag.now.text) }
         ensures nodes { self.new.nodes ≡ self.old.nodes }
         ensures elements { self.new.elements ≡ self.old.elements }
@@ -281,6 +321,7 @@ impl Builder {
         let kept = firsts(self.alloc, tag.attributes.as_slice())?;
         let element = element_of(self.alloc, self.innermost(), tag, &kept)?;
         push_handlers(self.alloc, self.total, node, &kept, &mut self.handlers)?;
+        push_names(self.alloc, self.total, node, &kept, &mut self.names)?;
         push_script(self.alloc, self.total, node, tag, &mut self.scripts)?;
         self.words.extend_from_slice(tag.text.as_slice())?;
         Ok(element)
@@ -288,6 +329,7 @@ impl Builder {
 
     // Adds the element of a start tag, behind which no text stands yet.
     fn add(&mut self, tag: Tag) -> Result<(), AllocError>
+        requires tag { DecodingTag tag }
         requires words { self.old.words.items ≡ [] }
         requires known { IsKnown self.old }
         requires room { vec_len self.old.nodes < 2 ^ 32 }
@@ -295,6 +337,7 @@ impl Builder {
         ensures total { self.new.total ≡ self.old.total }
         ensures nodes { vec_len self.new.nodes ≤ vec_len self.old.nodes + 1 }
         ensures known { OnOk result (IsKnown self.new) }
+        ensures decodes { OnOk result (IsUtf8 self.new.words.items) }
     {
         let node = self.nodes.len() as u32;
         let element = self.describe(node, &tag)?;
@@ -309,12 +352,15 @@ impl Builder {
 
     /// Adds one more piece.
     pub(crate) fn take(&mut self, piece: Piece) -> Result<(), AllocError>
+        requires piece { DecodingPiece piece }
         requires known { IsKnown self.old }
+        requires decodes { IsUtf8 self.old.words.items }
         requires room { vec_len self.old.nodes + 1 < 2 ^ 32 }
         ensures is { OnOk result (state_of self.new ≡ step self.old.total (state_of self.old) piece) }
         ensures total { self.new.total ≡ self.old.total }
         ensures nodes { vec_len self.new.nodes ≤ vec_len self.old.nodes + 2 }
         ensures known { OnOk result (IsKnown self.new) }
+        ensures decodes { OnOk result (IsUtf8 self.new.words.items) }
     {
         match piece {
             Piece::Dropped => Ok(()),

@@ -6,6 +6,7 @@ use Rattle.dom_tree.proofs.order.node_by_id.Given as goal
 abbrev pub invariant-walk : goal.invariant-walk
 invariant-walk l = record {
   there : l.node < length l.nodes;
+  level : l.level < 64;
   same : node_by_id l.nodes l.id ≡ first_that (has_id l.nodes l.id) (remaining l.nodes l.node l.place);
 }
 

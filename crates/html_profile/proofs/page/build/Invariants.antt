@@ -1,4 +1,4 @@
-use Rattle.std.proofs.Common.{◌≡◌, ◌+◌, ◌*◌, ◌≤◌, List, [], length, fold, vec_len}
+use Rattle.std.proofs.Common.{◌≡◌, ◌+◌, ◌*◌, ◌≤◌, List, [], length, fold, vec_len, IsUtf8}
 use Rattle.html_profile.specs.Tree.{step, beginning}
 use Rattle.html_profile.specs.Pieces.{Reads}
 use Rattle.html_profile.specs.Building.{state_of, IsKnown}
@@ -10,6 +10,8 @@ abbrev pub invariant-loop-rest : goal.invariant-loop-rest
 invariant-loop-rest l = record {
   on : (more : List Piece) → Reads l.rest more [] → (all : List Piece) × Reads l.fn.text all [] × (fold (step l.total) beginning all ≡ fold (step l.total) (state_of l.builder) more);
   known : IsKnown l.builder;
+  decodes : IsUtf8 l.rest;
+  words : IsUtf8 l.builder.words.items;
   total : l.builder.total ≡ l.total;
   nodes : vec_len l.builder.nodes + 2 * length l.rest ≤ 1 + 2 * length l.fn.text;
 }
