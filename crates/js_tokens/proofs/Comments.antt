@@ -6,7 +6,8 @@ use Rattle.std.proofs.Math.Seq.{drop-nil}
 use Rattle.std.specs.List.{list_any}
 use Rattle.std.specs.Option.{option_map}
 use Rattle.std.proofs.lemmas.Bool.{cond-true, cond-false}
-use Rattle.js_tokens.specs.Units.{opens, is_line_end}
+use Rattle.mug_text.specs.Characters.{is_line_end}
+use Rattle.js_tokens.specs.Units.{opens}
 use Rattle.js_tokens.specs.Gaps.{star_slash, blank, Gap, none, more}
 
 pub star_here : (us : List ℕ) → opens us (codes "*/") ≡ true → star_slash us ≡ Some 2

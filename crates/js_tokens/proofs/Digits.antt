@@ -3,7 +3,8 @@ use Rattle.std.proofs.Common.{◌≡◌, ℕ, ◌≤◌, Bool, true, false, List
 use Rattle.std.proofs.lemmas.Grind.{common_steps}
 use Rattle.std.specs.List.{list_all, take_while}
 use Rattle.js_tokens.specs.Units.{begins, is_part}
-use Rattle.js_tokens.specs.Numbers.{digit, are_digits, is_hexadecimal, is_decimal, is_numeral, goes_on}
+use Rattle.mug_text.specs.Digits.{digit, are_digits}
+use Rattle.js_tokens.specs.Numbers.{is_hexadecimal, is_decimal, is_numeral, goes_on}
 use Rattle.js_tokens.proofs.Runs.{and_left, and_right, and_both, or_left, run_is}
 
 digit_part : (u : ℕ) → nat_lt (digit u) 16 ≡ true → is_part u ≡ true

@@ -3,8 +3,10 @@ use Rattle.std.proofs.Common.{◌≡◌, ◌≢◌, ℕ, ℤ, zero, suc, ◌+◌
 use Rattle.std.proofs.lemmas.Bool.{eqb-true}
 use Rattle.std.proofs.lemmas.Grind.{common_steps}
 use Rattle.std.specs.List.{take_while}
-use Rattle.js_tokens.specs.Units.{is_start, is_digit, is_part, is_quote, begins}
-use Rattle.js_tokens.specs.Numbers.{digit, are_digits, is_hexadecimal, is_decimal, is_numeral}
+use Rattle.mug_text.specs.Characters.{is_digit}
+use Rattle.js_tokens.specs.Units.{is_start, is_part, is_quote, begins}
+use Rattle.mug_text.specs.Digits.{digit, are_digits}
+use Rattle.js_tokens.specs.Numbers.{is_hexadecimal, is_decimal, is_numeral}
 use Rattle.js_tokens.specs.Tokens.{is_name, Stands, NoneStands}
 use Rattle.js_tokens.specs.declared.word.Word.{Word}
 use Rattle.js_tokens.specs.declared.token.TokenKind.{TokenKind}
@@ -117,6 +119,10 @@ some_case P Q o x e m = subst (λ z. MatchOption z P Q) e m
 
 pub none_case : {A : Type 0} (P : Type 0) (Q : A → Type 0) (o : Option A) → o ≡ None → MatchOption o P Q → P
 none_case P Q o e m = subst (λ z. MatchOption z P Q) e m
+
+pub option_weaker : {A : Type 0} (o : Option A) (P : Type 0) (Q : A → Type 0) (R : Type 0) (S : A → Type 0) → (P → R) → ((x : A) → Q x → S x) → MatchOption o P Q → MatchOption o R S
+option_weaker None P Q R S f g m = f m
+option_weaker (Some x) P Q R S f g m = g x m
 
 start_part : (u : ℕ) → is_start u ≡ true → is_part u ≡ true
 start_part u h = grind (arith, common_steps)

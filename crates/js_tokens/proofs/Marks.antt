@@ -5,7 +5,8 @@ use Rattle.std.specs.List.{list_all}
 use Rattle.std.proofs.lemmas.Bool.{eqb-true}
 use Rattle.std.proofs.lemmas.Grind.{common_steps}
 use Rattle.std.proofs.lemmas.List.{length-take-le, length-take}
-use Rattle.js_tokens.specs.Units.{is_start, is_part, is_digit, is_quote, begins, opens}
+use Rattle.mug_text.specs.Characters.{is_digit}
+use Rattle.js_tokens.specs.Units.{is_start, is_part, is_quote, begins, opens}
 use Rattle.js_tokens.specs.Words.{spelling, is_word}
 use Rattle.js_tokens.specs.Tokens.{is_name, Stands, NoneStands}
 use Rattle.js_tokens.specs.declared.word.TheConstants.{PUNCTUATORS}

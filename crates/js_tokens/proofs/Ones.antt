@@ -3,7 +3,8 @@ use Rattle.std.proofs.Common.{◌≡◌, ℕ, ◌+◌, ◌-◌, ◌<◌, Bool, t
 use Rattle.std.proofs.lemmas.Grind.{common_steps}
 use Rattle.std.proofs.lemmas.List.{length-drop, length-take-le}
 use Rattle.std.specs.List.{list_any}
-use Rattle.js_tokens.specs.Units.{is_start, is_digit, is_quote, is_line_end, begins}
+use Rattle.mug_text.specs.Characters.{is_digit, is_line_end}
+use Rattle.js_tokens.specs.Units.{is_start, is_quote, begins}
 use Rattle.js_tokens.specs.Strings.{Inside}
 use Rattle.js_tokens.specs.Gaps.{Gap, none, more, blank}
 use Rattle.js_tokens.specs.Tokens.{Stands, Longest, NoneStands, IsNext, TokensFrom, ends, next, RefusedFrom, here, later}

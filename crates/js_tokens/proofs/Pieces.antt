@@ -1,7 +1,8 @@
 -- The pieces of a string, one by one.
 use Rattle.std.proofs.Common.{◌≡◌, ℕ, ◌+◌, Bool, true, false, ◌||◌, ◌==◌, List, [], ◌∷◌, ◌++◌, drop, refl, sym, ◌∙◌, ap, subst, arith, append_assoc, Option, None, Some, cond}
 use Rattle.std.specs.Option.{option_to_list}
-use Rattle.js_tokens.specs.Units.{begins, is_line_end}
+use Rattle.mug_text.specs.Characters.{is_line_end}
+use Rattle.js_tokens.specs.Units.{begins}
 use Rattle.js_tokens.specs.Strings.{piece, Inside, closes, more}
 use Rattle.js_tokens.specs.declared.strings.Piece.{Piece}
 use Rattle.js_tokens.proofs.Comments.{drop_drop}

@@ -2,7 +2,8 @@
 use Rattle.std.proofs.Common.{◌≡◌, ◌≢◌, ℕ, ◌<◌, Bool, true, false, ◌&&◌, List, [], ◌∷◌, ◌++◌, length, refl, sym, ◌∙◌, ap, subst, arith, if◌then◌else◌}
 use Rattle.std.specs.Prelude.{not}
 use Rattle.std.specs.List.{list_all}
-use Rattle.js_tokens.specs.Units.{is_start, is_digit, is_quote, begins}
+use Rattle.mug_text.specs.Characters.{is_digit}
+use Rattle.js_tokens.specs.Units.{is_start, is_quote, begins}
 use Rattle.js_tokens.specs.Words.{spelling, is_word}
 use Rattle.js_tokens.specs.Tokens.{is_name}
 use Rattle.js_tokens.specs.declared.word.TheConstants.{RESERVED, PUNCTUATORS}

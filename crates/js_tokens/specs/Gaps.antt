@@ -2,7 +2,8 @@
 use Rattle.std.specs.Prelude.{◌≡◌, ℕ, ◌+◌, ◌<◌, Bool, false, ◌||◌, not, List, [], ◌∷◌, length, take, drop, codes, Option, Some, None, if◌then◌else◌}
 use Rattle.std.specs.List.{take_while, list_any}
 use Rattle.std.specs.Option.{option_map}
-use Rattle.js_tokens.specs.Units.{is_space, is_line_end, begins, opens}
+use Rattle.mug_text.specs.Characters.{is_space, is_line_end}
+use Rattle.js_tokens.specs.Units.{begins, opens}
 
 -- how many units stand before and in the first `*/`, if there is one
 abbrev pub star_slash : List ℕ → Option ℕ

@@ -2,8 +2,9 @@
 use Rattle.std.specs.Prelude.{◌≡◌, ℕ, ◌+◌, true, ◌&&◌, ◌||◌, ◌==◌, nat_lt, List, [], ◌∷◌, ◌++◌, length, take, drop, Option, Some, None, if◌then◌else◌}
 use Rattle.std.specs.List.{list_all}
 use Rattle.std.specs.Option.{option_to_list}
-use Rattle.js_tokens.specs.Units.{is_digit, is_line_end, begins}
-use Rattle.js_tokens.specs.Numbers.{digit, digits_value}
+use Rattle.mug_text.specs.Characters.{is_digit, is_line_end}
+use Rattle.js_tokens.specs.Units.{begins}
+use Rattle.mug_text.specs.Digits.{digit, digits_value}
 use Rattle.js_tokens.specs.declared.strings.Piece.{Piece}
 
 -- so many hexadecimal digits in front, which stand for one unit

@@ -1,10 +1,11 @@
 // What stands between tokens.
 ghost use Rattle.std.specs.Prelude.{◌≡◌, ◌≤◌, length, None, IsTrue, IfSome, not, drop};
 ghost use Rattle.std.specs.List.{take_while, list_any};
-ghost use Rattle.js_tokens.specs.Units as unit_sorts;
+ghost use Rattle.mug_text.specs.Characters as sorts;
 ghost use Rattle.js_tokens.specs.Gaps.{star_slash, blank, Gap as gap_of};
 
-use crate::units::{is_blank, is_line_end, opens};
+use crate::units::opens;
+use mug_text::{is_blank, is_line_end};
 
 // A run of white space, line terminators and comments.
 #[derive(Clone, Copy, Drop)]
@@ -82,7 +83,7 @@ fn star_slash_at(units: &[u16]) -> Option<usize>
 
 // How many units stand before a line terminator.
 fn line_at(units: &[u16]) -> usize
-    ensures is { result ≡ length (take_while (λ u. not (unit_sorts.is_line_end u)) units.now) }
+    ensures is { result ≡ length (take_while (λ u. not (sorts.is_line_end u)) units.now) }
     ensures within { result ≤ length units.now }
 {
     for (index, unit) in units.iter().enumerate() {
@@ -94,7 +95,7 @@ fn line_at(units: &[u16]) -> usize
 }
 
 fn has_line_end(units: &[u16]) -> bool
-    ensures { result ≡ list_any unit_sorts.is_line_end units.now }
+    ensures { result ≡ list_any sorts.is_line_end units.now }
 {
     for unit in units {
         if is_line_end(*unit) {

@@ -3,15 +3,16 @@ ghost use Rattle.std.specs.Prelude.{◌≡◌, ℕ, ◌<◌, ◌==◌, true, fal
 ghost use Rattle.std.specs.List.{list_all};
 ghost use Rattle.js_tokens.specs.Units.{is_quote, begins};
 ghost use Rattle.js_tokens.specs.Units as unit_sorts;
+ghost use Rattle.mug_text.specs.Characters as sorts;
 ghost use Rattle.js_tokens.specs.Words.{spelling, is_word};
 ghost use Rattle.js_tokens.specs.Tokens.{Longest, NoneStands};
 
 use crate::numbers::number_at;
 use crate::strings::inside_at;
-use crate::units::{is_digit, is_start, opens, run_at};
+use crate::units::{is_start, opens, run_at};
 use crate::word::{PUNCTUATORS, RESERVED};
 use crate::{TokenKind, Word};
-use mug_text::{JText, NoMemory};
+use mug_text::{JText, NoMemory, is_digit};
 use std::alloc::Global;
 
 // A token in front of a text.
@@ -30,10 +31,7 @@ pub(crate) fn token_at(alloc: Global, text: &JText, at: usize) -> Result<Option<
     let rest = &text.as_slice()[at..];
     let first = rest[0];
     if is_start(first) {
-        return match name_at(text, at) {
-            Ok(found) => Ok(Some(found)),
-            Err(fault) => Err(fault),
-        };
+        return Ok(Some(name_at(text, at)?));
     }
     if is_digit(first) {
         return Ok(numeral_at(rest));
@@ -46,20 +44,17 @@ pub(crate) fn token_at(alloc: Global, text: &JText, at: usize) -> Result<Option<
 
 // The number in front.
 fn numeral_at(units: &[u16]) -> Option<Found>
-    requires { begins unit_sorts.is_digit units.now ≡ true }
+    requires { begins sorts.is_digit units.now ≡ true }
     ensures { MatchOption result (NoneStands units.now) (λ f. Longest f.kind f.word units.now f.len) }
 {
-    match number_at(units) {
-        Some(found) => Some(found),
-        None => None,
-    }
+    number_at(units)
 }
 
 // The punctuator at a place.
 fn mark_at(text: &JText, at: usize) -> Result<Option<Found>, NoMemory>
     requires inside { at < length text.now }
     requires no_name { begins unit_sorts.is_start (drop at text.now) ≡ false }
-    requires no_number { begins unit_sorts.is_digit (drop at text.now) ≡ false }
+    requires no_number { begins sorts.is_digit (drop at text.now) ≡ false }
     requires no_string { begins is_quote (drop at text.now) ≡ false }
     ensures { IfOk result (λ o. MatchOption o (NoneStands (drop at text.now)) (λ f. Longest f.kind f.word (drop at text.now) f.len)) }
 {
@@ -68,7 +63,7 @@ fn mark_at(text: &JText, at: usize) -> Result<Option<Found>, NoMemory>
         None => return Ok(None),
     };
     let len = word.spelling().len();
-    let mark = text.slice(at, at + len)?;
+    let mark = text.share(at, at + len)?;
     Ok(Some(Found {
         kind: TokenKind::Punctuator(mark),
         word,
@@ -83,7 +78,7 @@ fn name_at(text: &JText, at: usize) -> Result<Found, NoMemory>
     ensures { IfOk result (λ f. Longest f.kind f.word (drop at text.now) f.len) }
 {
     let len = run_at(&text.as_slice()[at..]);
-    let name = text.slice(at, at + len)?;
+    let name = text.share(at, at + len)?;
     match reserved_at(name.as_slice()) {
         Some(word) => Ok(Found {
             kind: TokenKind::Reserved(name),

@@ -15,6 +15,3 @@ pub use laws::tokens_are_one;
 pub use reading::tokens;
 pub use token::{LexFault, Token, TokenKind, Tokens};
 pub use word::Word;
-
-#[cfg(test)]
-mod tests;

@@ -33,15 +33,13 @@ pub fn tokens(alloc: Global, text: &JText) -> Result<Tokens, LexFault>
                 let to = from + found.len;
                 let token = Token {
                     kind: found.kind,
-                    word: found.word,
                     from,
                     to,
+                    word: found.word,
                     line_before: gap.line,
                 };
-                match items.push(token) {
-                    Ok(()) => at = to,
-                    Err(_) => return Err(LexFault::NoMemory),
-                }
+                items.push(token)?;
+                at = to;
                 dry = gap.dry;
             }
         }

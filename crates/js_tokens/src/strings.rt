@@ -3,14 +3,12 @@ ghost use Rattle.std.specs.Prelude.{◌≡◌, ℕ, ◌+◌, ◌*◌, ◌<◌, �
 ghost use Rattle.std.specs.List.{list_all};
 ghost use Rattle.std.specs.Option.{option_to_list};
 ghost use Rattle.js_tokens.specs.Units.{begins};
-ghost use Rattle.js_tokens.specs.Units as unit_sorts;
-ghost use Rattle.js_tokens.specs.Numbers.{digit, digits_value};
+ghost use Rattle.mug_text.specs.Characters as sorts;
+ghost use Rattle.mug_text.specs.Digits.{digit, digits_value};
 ghost use Rattle.js_tokens.specs.Strings.{piece, escaped, coded, single, Inside};
 ghost use Rattle.js_tokens.specs.Strings as string_pieces;
 
-use crate::numbers::digit_of;
-use crate::units::{is_digit, is_line_end};
-use mug_text::NoMemory;
+use mug_text::{NoMemory, digit_value, is_digit, is_line_end};
 
 // One piece of a string: the unit that it stands for, if it does, and its length.
 #[derive(Clone, Copy, Drop)]
@@ -47,10 +45,10 @@ fn push_piece(piece: Piece, out: &mut Vec<u16>) -> Result<(), NoMemory>
     ensures { OnOk result (out.new.items ≡ out.old.items ++ option_to_list piece.value) }
 {
     match piece.value {
-        Some(unit) => match out.push(unit) {
-            Ok(()) => Ok(()),
-            Err(_) => Err(NoMemory),
-        },
+        Some(unit) => {
+            out.push(unit)?;
+            Ok(())
+        }
         None => Ok(()),
     }
 }
@@ -117,7 +115,7 @@ fn continued(unit: u16, rest: &[u16]) -> Piece
 
 // The escape of U+0000.
 fn zero(rest: &[u16]) -> Option<Piece>
-    ensures { result ≡ (if begins unit_sorts.is_digit rest.now then None else Some (record { value = Some 0; len = 2 })) }
+    ensures { result ≡ (if begins sorts.is_digit rest.now then None else Some (record { value = Some 0; len = 2 })) }
 {
     match rest.first() {
         Some(next) if is_digit(*next) => None,
@@ -164,10 +162,10 @@ fn four_coded(units: &[u16]) -> Option<Piece>
 fn four(a: u16, b: u16, c: u16, d: u16) -> Option<u16>
     ensures { MatchOption result (list_all (λ u. nat_lt (digit u) 16) (a ∷ b ∷ c ∷ d ∷ []) ≡ false) (λ n. (list_all (λ u. nat_lt (digit u) 16) (a ∷ b ∷ c ∷ d ∷ []) ≡ true) × (n ≡ digits_value 16 (a ∷ b ∷ c ∷ d ∷ []))) }
 {
-    let first = digit_of(a);
-    let second = digit_of(b);
-    let third = digit_of(c);
-    let fourth = digit_of(d);
+    let first = digit_value(a);
+    let second = digit_value(b);
+    let third = digit_value(c);
+    let fourth = digit_value(d);
     if first > 15 {
         return None;
     }
@@ -187,8 +185,8 @@ fn four(a: u16, b: u16, c: u16, d: u16) -> Option<u16>
 fn pair(a: u16, b: u16) -> Option<u16>
     ensures { MatchOption result ((digit a < 16 → digit b < 16 → ⊥)) (λ n. (digit a < 16) × (digit b < 16) × (n ≡ digit a * 16 + digit b) × (n < 256)) }
 {
-    let high = digit_of(a);
-    let low = digit_of(b);
+    let high = digit_value(a);
+    let low = digit_value(b);
     if high > 15 || low > 15 {
         return None;
     }

@@ -3,7 +3,7 @@ ghost use Rattle.std.specs.Prelude.{◌≡◌};
 
 use crate::Word;
 use mug_text::{JText, Listed, NoMemory};
-use std::alloc::AllocError;
+use std::alloc::{AllocError, AllocFailed};
 use thiserror::Error;
 
 /// What a token is, with its text, its number, or the value of a string.
@@ -20,11 +20,11 @@ pub enum TokenKind {
 #[derive(Debug, Drop)]
 pub struct Token {
     pub kind: TokenKind,
-    pub word: Word,
     /// The token's first unit.
     pub from: usize,
     /// The unit behind its last.
     pub to: usize,
+    pub word: Word,
     /// Whether a line terminator stands between the token before, or the text's start, and this one.
     pub line_before: bool,
 }
@@ -63,6 +63,17 @@ impl From<NoMemory> for LexFault {
     ghost from_gives = { λ _ fault. fault ≡ no_memory };
 
     fn from(_error: NoMemory) -> LexFault {
+        LexFault::NoMemory
+    }
+}
+
+// So that `push(..)?` gives it. The refused value is dropped.
+impl<T: Drop> From<AllocFailed<T>> for LexFault {
+    ghost use Rattle.js_tokens.specs.declared.token.LexFault.TheVariants.{NoMemory as no_memory};
+
+    ghost from_gives = { λ _ fault. fault ≡ no_memory };
+
+    fn from(_error: AllocFailed<T>) -> LexFault {
         LexFault::NoMemory
     }
 }

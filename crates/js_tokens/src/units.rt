@@ -1,30 +1,10 @@
 // The units of a text, by what they may be part of.
-ghost use Rattle.std.specs.Prelude.{◌≡◌, ◌≤◌, ◌||◌, IsTrue, length};
+ghost use Rattle.std.specs.Prelude.{◌≡◌, ◌≤◌, IsTrue, length};
 ghost use Rattle.std.specs.List.{take_while};
 ghost use Rattle.js_tokens.specs.Units as unit_sorts;
-ghost use Rattle.js_tokens.specs.Units.{is_space, is_part};
+ghost use Rattle.js_tokens.specs.Units.{is_part};
 
-// White space or a line terminator.
-pub(crate) fn is_blank(unit: u16) -> bool
-    ensures { result ≡ (is_space unit || unit_sorts.is_line_end unit) }
-{
-    matches!(
-        unit,
-        0x09..=0x0D | 0x20 | 0xA0 | 0x1680 | 0x2000..=0x200A | 0x2028 | 0x2029 | 0x202F | 0x205F | 0x3000 | 0xFEFF
-    )
-}
-
-pub(crate) fn is_line_end(unit: u16) -> bool
-    ensures { result ≡ unit_sorts.is_line_end unit }
-{
-    matches!(unit, 0x0A | 0x0D | 0x2028 | 0x2029)
-}
-
-pub(crate) fn is_digit(unit: u16) -> bool
-    ensures { result ≡ unit_sorts.is_digit unit }
-{
-    matches!(unit, 0x30..=0x39)
-}
+use mug_text::is_digit;
 
 // What a name begins with.
 pub(crate) fn is_start(unit: u16) -> bool

@@ -10,7 +10,7 @@ use Rattle.js_tree.specs.declared.script.Braces.{Braces}
 use Rattle.js_tree.specs.declared.script.FunctionHead.{FunctionHead}
 use Rattle.js_tree.specs.declared.script.FunctionHead.TheVariants as head
 use Rattle.js_tree.specs.Trees.{Part, At, Body, Word, Missing, Nil, Cons, parts, named, words}
-use Rattle.js_tree.specs.Arena.{Arena, IsWithin, IsOrdered, function_of, pending_of, with_function}
+use Rattle.js_tree.specs.Arena.{Arena, IsWithin, IsOrdered, function_of, pending_of, with_function, with_node}
 
 -- what is there stays there
 pub within_more : (n b m c : ℕ) → n ≤ m → b ≤ c → (p : Part) → IsWithin n b p → IsWithin m c p
@@ -37,8 +37,8 @@ words_within n b [] = tt
 words_within n b (name ∷ names) = (tt, words_within n b names)
 
 function_within : (head : FunctionHead) (n b : ℕ) → IsWithin n (b + 1) (parts (function_of head (record { number = b })))
-function_within (head.Expression name parameters) n b = (named_within n (b + 1) name, (words_within n (b + 1) parameters, (omega arith, tt)))
-function_within (head.Declaration name parameters) n b = (tt, (words_within n (b + 1) parameters, (omega arith, tt)))
+function_within (head.Expression h) n b = (named_within n (b + 1) h.value.name, (words_within n (b + 1) h.value.parameters, (omega arith, tt)))
+function_within (head.Declaration h) n b = (tt, (words_within n (b + 1) h.value.parameters, (omega arith, tt)))
 
 pub function_added : (arena : Arena) → IsOrdered arena → length arena.kept < 4294967295 → length arena.pending < 4294967295
     → (head : FunctionHead) (from to : ℕ) (braces : Braces) → IsOrdered (with_function head from to braces arena)
@@ -84,3 +84,18 @@ function_pushed arena is head from to braces n m n_is m_is few few_bodies kept p
       filled = f i;
     } in
     subst IsOrdered (sym same) (function_added arena is (omega arith) (omega arith) head from to braces)
+
+pub node_added : (arena : Arena) → IsOrdered arena → length arena.kept < 4294967295 → (k : Kept) → IsWithin (length arena.kept) (length arena.pending) (parts k.node) → IsOrdered (with_node k arena)
+node_added arena is few new within =
+    let nodes_len : length (arena.kept ++ new ∷ []) ≡ length arena.kept + 1 = length_push arena.kept new in
+    record {
+      few_nodes = omega arith;
+      few_bodies = is.few_bodies;
+      as_many = is.as_many;
+      nodes = λ i k h. elim (get_pushed arena.kept new i k h) [
+        | inl e ↦ is.nodes i k e
+        | inr e ↦ subst (λ (k : Kept). IsWithin i (length arena.pending) (parts k.node)) e.1 (subst (λ n. IsWithin n (length arena.pending) (parts new.node)) (sym e.0) within)
+      ];
+      functions = λ i p h. (let old : p.node.number < length arena.kept = is.functions i p h in omega arith);
+      bodies = λ i id h. (let old : id.number < length arena.kept = is.bodies i id h in omega arith);
+    }

@@ -1,11 +1,9 @@
 -- Trees that an arena holds.
-use Rattle.std.proofs.Common.{◌≡◌, ℕ, zero, suc, ◌<◌, ◌≤◌, List, [], ◌∷◌, ◌++◌, length, Some, refl, sym, ap, subst, ◌∙◌, arith}
+use Rattle.std.proofs.Common.{◌≡◌, ℕ, zero, suc, ◌<◌, List, [], ◌∷◌, ◌++◌, length, Some, refl, sym, ap, subst, ◌∙◌, arith}
 use Rattle.std.specs.List.{slice_get}
 use Rattle.std.proofs.lemmas.Option.{same_Some, none-some}
 use Rattle.js_tree.specs.declared.script.Kept.{Kept}
 use Rattle.js_tree.specs.Trees.{Tree, Part, Made, At, Body, Word, Missing, Nil, Cons, Holds, parts, production_of}
-use Rattle.js_tree.specs.Arena.{Arena, IsOrdered, IsWithin}
-use Rattle.js_tree.proofs.Arenas.{within_more}
 
 pub one_tree : (bodies : ℕ → Tree) (kept : List Kept) (p : Part) (t u : Tree) → Holds bodies kept p t → Holds bodies kept p u → t ≡ u
 one_tree bodies kept (At i) (Made p from to ts) (Made q f o us) h g =
@@ -94,33 +92,7 @@ kept_tree bodies kept more (Cons p q) (Word _) h = absurd h
 kept_tree bodies kept more (Cons p q) Missing h = absurd h
 kept_tree bodies kept more (Cons p q) Nil h = absurd h
 
-kept_at : (kept : List Kept) (i : ℕ) → i < length kept → (k : Kept) × (slice_get kept i ≡ Some k)
+pub kept_at : (kept : List Kept) (i : ℕ) → i < length kept → (k : Kept) × (slice_get kept i ≡ Some k)
 kept_at [] i h = absurd (omega arith)
 kept_at (k ∷ kept) zero h = (k, refl)
 kept_at (k ∷ kept) (suc i) h = kept_at kept i (omega arith)
-
-module _ (bodies : ℕ → Tree) (arena : Arena) (is : IsOrdered arena) where
-  -- where every node before this one is a tree, so is every part that names no others
-  part_there : (n : ℕ) → ((i : ℕ) → i < n → (t : Tree) × Holds bodies arena.kept (At i) t) → (p : Part) → IsWithin n (length arena.pending) p → (t : Tree) × Holds bodies arena.kept p t
-  part_there n before (At i) h = before i h
-  part_there n before (Body k) h = (bodies k, refl)
-  part_there n before (Word s) h = (Word s, refl)
-  part_there n before Missing h = (Missing, tt)
-  part_there n before Nil h = (Nil, tt)
-  part_there n before (Cons p q) h =
-      let front = part_there n before p h.0 in
-      let back = part_there n before q h.1 in
-      (Cons front.0 back.0, (front.1, back.1))
-
-  -- so many of the first nodes are trees
-  nodes_there : (n : ℕ) → n ≤ length arena.kept → (i : ℕ) → i < n → (t : Tree) × Holds bodies arena.kept (At i) t
-  nodes_there zero l i h = absurd (omega arith)
-  nodes_there (suc n) l i h =
-      let there : i < length arena.kept = omega arith in
-      let found = kept_at arena.kept i there in
-      let inner = part_there n (nodes_there n (omega arith)) (parts found.0.node)
-      (within_more i (length arena.pending) n (length arena.pending) (omega arith) (omega arith) (parts found.0.node) (is.nodes i found.0 found.1)) in
-      (Made (production_of found.0.node) found.0.from found.0.to inner.0, (found.0, found.1, refl, refl, refl, inner.1))
-
-  pub tree_there : (p : Part) → IsWithin (length arena.kept) (length arena.pending) p → (t : Tree) × Holds bodies arena.kept p t
-  tree_there p h = part_there (length arena.kept) (nodes_there (length arena.kept) (omega arith)) p h

@@ -4,3 +4,5 @@ pub mod Walks
 pub mod Joins
 pub mod Functions
 pub mod Held
+pub mod Index
+pub mod Computed

@@ -65,13 +65,13 @@ last_plain None = tt
 last_plain (Some ids) = nodes_plain ids
 
 abbrev IsNoFunction : Node → Type 0
-IsNoFunction (node.Function _ _ _) = ⊥
-IsNoFunction (node.Declaration _ _ _) = ⊥
+IsNoFunction (node.Function _ _) = ⊥
+IsNoFunction (node.Declaration _ _) = ⊥
 IsNoFunction _ = Unit {0}
 
 plain : (n : Node) → IsNoFunction n → NoBody (parts n)
-plain (node.Function _ _ _) clean = absurd clean
-plain (node.Declaration _ _ _) clean = absurd clean
+plain (node.Function _ _) clean = absurd clean
+plain (node.Declaration _ _) clean = absurd clean
 plain (node.Array es) clean = (elements_plain es, tt)
 plain (node.Object es) clean = (entries_plain es, tt)
 plain (node.Call f xs) clean = (tt, (nodes_plain xs, tt))
@@ -84,7 +84,7 @@ plain (node.Continue l) clean = (named_plain l, tt)
 plain (node.Break l) clean = (named_plain l, tt)
 plain (node.Return e) clean = (perhaps_plain e, tt)
 plain (node.Switch e cs) clean = (tt, (cases_plain cs, tt))
-plain (node.Try ss c f) clean = (nodes_plain ss, (caught_plain c, (last_plain f, tt)))
+plain (node.Try t) clean = (nodes_plain t.value.block, (caught_plain t.value.catch, (last_plain t.value.finally, tt)))
 plain (node.Program ss _) clean = (nodes_plain ss, tt)
 plain (node.Handler ss _) clean = (nodes_plain ss, tt)
 plain (node.Body ss _) clean = (nodes_plain ss, tt)
@@ -167,8 +167,8 @@ begun of bodies kept ids t h =
 -- what stands in a node has the node's texts
 node_opened : (w : Wanted) (bodies : ℕ → Tree) (kept : List Kept) (n : Node) (from to : ℕ) (ts : Tree) → Holds bodies kept (parts n) ts → (rest : List Item) (u : Tree) → Holds bodies kept (part_of rest) u
     → (v : Tree) × Holds bodies kept (part_of (inside w n ++ rest)) v × (texts_in (wants w) true v ≡ texts_in (wants w) true (Made (production_of n) from to ts) ++ texts_in (wants w) true u)
-node_opened w bodies kept (node.Function _ _ _) from to ts h rest u g = (u, g, refl)
-node_opened w bodies kept (node.Declaration _ _ _) from to ts h rest u g = (u, g, refl)
+node_opened w bodies kept (node.Function _ _) from to ts h rest u g = (u, g, refl)
+node_opened w bodies kept (node.Declaration _ _) from to ts h rest u g = (u, g, refl)
 node_opened w bodies kept n from to ts h rest u g = flat (wants w) bodies kept (wants w (production_of n)) (parts n) (plain n tt) ts h rest u g
 
 -- a walk goes on where a node on top is replaced by what stands in it
@@ -228,8 +228,8 @@ begun_within count bodies ids h = items_within count bodies false (nodes ids) h 
 
 -- so are those that stand in a node of the arena
 pub opened_within : (w : Wanted) (count bodies : ℕ) (n : Node) → IsWithin count bodies (parts n) → (rest : List Item) → IsWithin count bodies (part_of rest) → IsWithin count bodies (part_of (inside w n ++ rest))
-opened_within w count bodies (node.Function _ _ _) h rest g = g
-opened_within w count bodies (node.Declaration _ _ _) h rest g = g
+opened_within w count bodies (node.Function _ _) h rest g = g
+opened_within w count bodies (node.Declaration _ _) h rest g = g
 opened_within w count bodies n h rest g = items_within count bodies (wants w (production_of n)) (parts n) h rest g
 
 -- a walk over these statements has found these texts, and these items are left, the next in front

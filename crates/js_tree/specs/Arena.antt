@@ -1,9 +1,10 @@
 -- An arena as the lists of its nodes and of the bodies of its functions. A node's number is its place among the nodes, and a body's
 -- its place among the bodies.
-use Rattle.std.specs.Prelude.{◌≡◌, ℕ, ◌<◌, ◌^◌, List, [], ◌∷◌, ◌++◌, length, Option, Some, None, slice_get, slice_set}
+use Rattle.std.specs.Prelude.{◌≡◌, ℕ, ◌-◌, ◌<◌, ◌^◌, Bool, true, false, ◌&&◌, ◌==◌, List, [], ◌∷◌, ◌++◌, length, Option, Some, None, slice_get, slice_set, if◌then◌else◌}
 use Rattle.std.specs.Option.{option_map}
 use Rattle.js_tree.specs.declared.node.NodeId.{NodeId}
 use Rattle.js_tree.specs.declared.node.BodyId.{BodyId}
+use Rattle.js_tree.specs.declared.node.Scope.{Scope}
 use Rattle.js_tree.specs.declared.node.Node.{Node}
 use Rattle.js_tree.specs.declared.node.Node.TheVariants as node
 use Rattle.js_tree.specs.declared.script.Kept.{Kept}
@@ -43,8 +44,8 @@ abbrev pub with_node : Kept → Arena → Arena
 with_node k arena = record arena { kept = arena.kept ++ k ∷ [] }
 
 abbrev pub function_of : FunctionHead → BodyId → Node
-function_of (head.Expression name parameters) body = node.Function name parameters body
-function_of (head.Declaration name parameters) body = node.Declaration name parameters body
+function_of (head.Expression h) body = node.Function h body
+function_of (head.Declaration h) body = node.Declaration h body
 
 abbrev pub pending_of : ℕ → Braces → Pending
 pending_of number braces = record { node = record { number = number }; from = braces.from; to = braces.to; level = braces.level }
@@ -67,34 +68,73 @@ node_at arena id = option_map (λ (k : Kept). k.node) (slice_get arena.kept id.n
 abbrev pub span_at : Arena → NodeId → Option (ℕ × ℕ)
 span_at arena id = option_map (λ (k : Kept). (k.from, k.to)) (slice_get arena.kept id.number)
 
--- the names that a program or a body carries
-abbrev pub names_of : Node → List (List ℕ)
-names_of (node.Program _ names) = names
-names_of (node.Handler _ names) = names
-names_of (node.Body _ names) = names
-names_of _ = []
+-- the scope that a program or a body carries
+abbrev pub scope_of : Node → Option Scope
+scope_of (node.Program _ scope) = Some scope.value
+scope_of (node.Handler _ scope) = Some scope.value
+scope_of (node.Body _ scope) = Some scope.value
+scope_of _ = None
 
-abbrev pub names_in : Option Node → List (List ℕ)
-names_in None = []
-names_in (Some n) = names_of n
+abbrev pub scope_in : Option Node → Option Scope
+scope_in None = None
+scope_in (Some n) = scope_of n
 
-abbrev pub names_at : Arena → Option NodeId → List (List ℕ)
-names_at arena None = []
-names_at arena (Some id) = names_in (node_at arena id)
+abbrev pub scope_at : Arena → Option NodeId → Option Scope
+scope_at arena None = None
+scope_at arena (Some id) = scope_in (node_at arena id)
 
-abbrev pub names_of_body : Arena → Option (Option NodeId) → List (List ℕ)
-names_of_body arena None = []
-names_of_body arena (Some id) = names_at arena id
+abbrev pub scope_of_body : Arena → Option (Option NodeId) → Option Scope
+scope_of_body arena None = None
+scope_of_body arena (Some id) = scope_at arena id
 
--- of a function the names that its body carries, once it is read; of any other node those that it carries itself
-abbrev pub declared_by : Arena → Option Node → List (List ℕ)
-declared_by arena None = []
-declared_by arena (Some (node.Function _ _ body)) = names_of_body arena (slice_get arena.filled body.number)
-declared_by arena (Some (node.Declaration _ _ body)) = names_of_body arena (slice_get arena.filled body.number)
-declared_by arena (Some n) = names_of n
+-- of a function the scope that its body carries, once it is read; of any other node the one that it carries itself
+abbrev pub scope_by : Arena → Option Node → Option Scope
+scope_by arena None = None
+scope_by arena (Some (node.Function _ body)) = scope_of_body arena (slice_get arena.filled body.number)
+scope_by arena (Some (node.Declaration _ body)) = scope_of_body arena (slice_get arena.filled body.number)
+scope_by arena (Some n) = scope_of n
+
+abbrev pub scope : Arena → NodeId → Option Scope
+scope arena id = scope_by arena (node_at arena id)
+
+abbrev pub names_of : Option Scope → List (List ℕ)
+names_of None = []
+names_of (Some scope) = scope.names
 
 abbrev pub declared : Arena → NodeId → List (List ℕ)
-declared arena id = declared_by arena (node_at arena id)
+declared arena id = names_of (scope arena id)
+
+-- the node begins at this unit
+abbrev pub begins_at : ℕ → Option Kept → Bool
+begins_at unit None = false
+begins_at unit (Some k) = k.from == unit
+
+abbrev pub is_handler : Node → Bool
+is_handler (node.Handler _ _) = true
+is_handler _ = false
+
+-- the node is a handler, and this is the unit behind it
+abbrev pub ends_handler : ℕ → Option Kept → Bool
+ends_handler unit None = false
+ends_handler unit (Some k) = is_handler k.node && k.to == unit
+
+abbrev pub first_of : Option NodeId → Option NodeId → Option NodeId
+first_of None other = other
+first_of (Some id) other = Some id
+
+-- the last of some functions that begins at this unit
+abbrev pub function_among : List Kept → List Pending → ℕ → Option NodeId
+function_among kept [] unit = None
+function_among kept (p ∷ ps) unit = first_of (function_among kept ps unit) (if begins_at unit (slice_get kept p.node.number) then Some p.node else None)
+
+-- the last node, where it is a handler that ends there
+abbrev pub handler_among : List Kept → ℕ → Option NodeId
+handler_among kept unit = if ends_handler unit (slice_get kept (length kept - 1)) then Some (record { number = length kept - 1 }) else None
+
+-- The function that a unit names: a function by its first unit, and a handler's own function by its text's length, so that no two
+-- have one name.
+abbrev pub function_at : Arena → ℕ → Option NodeId
+function_at arena unit = first_of (handler_among arena.kept unit) (function_among arena.kept arena.pending unit)
 
 -- every body is read, as a node that holds the tree that it is
 abbrev pub Filled : Arena → (ℕ → Tree) → Type 0

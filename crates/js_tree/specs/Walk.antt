@@ -2,6 +2,7 @@
 use Rattle.std.specs.Prelude.{ℕ, Bool, true, false, List, [], ◌∷◌, ◌++◌, Option, Some, None, if◌then◌else◌}
 use Rattle.js_tree.specs.declared.node.Node.{Node}
 use Rattle.js_tree.specs.declared.node.Node.TheVariants as node
+use Rattle.js_tree.specs.declared.node.Declared.{Declared}
 use Rattle.js_tree.specs.declared.production.Production.{Production}
 use Rattle.js_tree.specs.declared.production.Production.TheVariants as production
 use Rattle.js_tree.specs.declared.walk.Item.{Item}
@@ -28,10 +29,10 @@ abbrev pub test_of : Wanted → Production → Bool
 test_of Vars = is_var
 test_of Variables = names_variables
 
--- the name that a node declares as a function
-abbrev pub function_name : Node → List (List ℕ)
-function_name (node.Declaration name _ _) = name ∷ []
-function_name _ = []
+-- what a node whose first unit is this declares as a function
+abbrev pub declared_by : Node → ℕ → List Declared
+declared_by (node.Declaration h _) from = record { name = h.value.name; at = from } ∷ []
+declared_by _ from = []
 
 -- the nodes of a part and, where they are wanted, its texts, from left to right
 abbrev pub items_in : Bool → Part → List Item
@@ -42,9 +43,39 @@ items_in here _ = []
 
 -- those of a node; functions are not looked into
 abbrev pub inside : Wanted → Node → List Item
-inside wanted (node.Function _ _ _) = []
-inside wanted (node.Declaration _ _ _) = []
+inside wanted (node.Function _ _) = []
+inside wanted (node.Declaration _ _) = []
 inside wanted n = items_in (wants wanted (production_of n)) (parts n)
+
+-- statements and what holds them; all other nodes are expressions
+abbrev pub is_statement : Node → Bool
+is_statement (node.Block _) = true
+is_statement (node.Var _) = true
+is_statement node.Empty = true
+is_statement (node.Expression _) = true
+is_statement (node.If _ _ _) = true
+is_statement (node.DoWhile _ _) = true
+is_statement (node.While _ _) = true
+is_statement (node.For _ _ _ _) = true
+is_statement (node.ForIn _ _ _) = true
+is_statement (node.Continue _) = true
+is_statement (node.Break _) = true
+is_statement (node.Return _) = true
+is_statement (node.Labelled _ _) = true
+is_statement (node.Switch _ _) = true
+is_statement (node.Throw _) = true
+is_statement (node.Try _) = true
+is_statement (node.Declaration _ _) = true
+is_statement (node.Program _ _) = true
+is_statement (node.Handler _ _) = true
+is_statement (node.Body _ _) = true
+is_statement _ = false
+
+abbrev pub inside_statement : Wanted → Node → List Item
+inside_statement wanted n = if is_statement n then inside wanted n else []
+
+abbrev pub inside_expression : Wanted → Node → List Item
+inside_expression wanted n = if is_statement n then [] else inside wanted n
 
 abbrev pub inside_in : Wanted → Option Node → List Item
 inside_in wanted None = []

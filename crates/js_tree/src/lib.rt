@@ -8,10 +8,10 @@ mod production;
 mod script;
 mod walk;
 
-pub use laws::{a_tree_is_one, a_tree_is_there, added_nodes_keep_trees};
-pub use node::{BodyId, Case, Catch, Declarator, Entry, Node, NodeId};
+pub use laws::{a_body_is_its_tree, a_tree_is_one, a_tree_is_there, added_nodes_keep_trees};
+pub use node::{
+    BodyId, Case, Catch, DeclarationHead, Declarator, Declared, Entry, ExpressionHead, Guarded,
+    Node, NodeId, Scope,
+};
 pub use production::{BinaryOperator, Production, UnaryOperator, UpdateOperator};
-pub use script::{Braces, FunctionHead, Kept, Pending, Script};
-
-#[cfg(test)]
-mod tests;
+pub use script::{Braces, FunctionHead, Kept, NODES_END, Pending, Script};

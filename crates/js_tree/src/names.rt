@@ -1,13 +1,13 @@
 // The names of a scope (ECMA-262 edition 5.1, 10.5).
-ghost use Rattle.std.specs.Prelude.{◌≡◌, ℕ, not, List, [], ◌∷◌, length, if◌then◌else◌, option_to_list, IfOk, OnOk, OnErr};
+ghost use Rattle.std.specs.Prelude.{◌≡◌, ℕ, List, [], ◌∷◌, ◌++◌, length, if◌then◌else◌, ◌&&◌, option_to_list, IfOk, OnOk, OnErr};
 ghost use Rattle.std.specs.Option.{option_copied};
 ghost use Rattle.js_tree.specs.Trees.{Tree, Holds, nodes};
-ghost use Rattle.js_tree.specs.Names.{arguments, functions_in, is_among, joined, program_names, scope_names};
+ghost use Rattle.js_tree.specs.Names.{arguments, call_scope, functions_in, is_among, is_new, is_own_name, joined, names_of, program_scope};
 ghost use Rattle.js_tree.specs.Arena.{IsWithin};
-ghost use Rattle.js_tree.specs.Walk.{function_name};
+ghost use Rattle.js_tree.specs.Walk.{declared_by};
 ghost use Rattle.js_tree.specs.Seen.{HasNames};
 
-use crate::node::{Node, NodeId};
+use crate::node::{Declared, Node, NodeId, Scope};
 use crate::script::Script;
 use crate::walk::Wanted;
 use mug_text::{JText, Listed, NoMemory};
@@ -46,7 +46,7 @@ fn has(texts: &[JText], name: &JText) -> bool
 
 // Adds a name to a set, and says whether it is a new one.
 fn see(seen: &mut BTreeSet<JText>, name: JText) -> Result<bool, AllocError>
-    ensures new { (names : List (List ℕ)) → HasNames seen.old names → IfOk result (λ is_new. is_new ≡ not (is_among name names)) }
+    ensures new { (names : List (List ℕ)) → HasNames seen.old names → IfOk result (λ b. b ≡ is_new names name) }
     ensures ok { (names : List (List ℕ)) → HasNames seen.old names → OnOk result (HasNames seen.new (joined names (name ∷ []))) }
     ensures err { (names : List (List ℕ)) → HasNames seen.old names → OnErr result (HasNames seen.new names) }
 {
@@ -64,8 +64,10 @@ impl Names {
         }
     }
 
-    fn add(&mut self, name: &JText) -> Result<(), NoMemory>
-        ensures { OnOk result (self.new ≡ joined self.old (name.now ∷ [])) }
+    // Adds a name, and says whether it is a new one.
+    fn add(&mut self, name: &JText) -> Result<bool, NoMemory>
+        ensures new { IfOk result (λ b. b ≡ is_new self.old name.now) }
+        ensures ok { OnOk result (self.new ≡ joined self.old (name.now ∷ [])) }
     {
         let kept = name.copy()?;
         let key = name.copy()?;
@@ -74,46 +76,49 @@ impl Names {
         if is_new {
             self.list.push_reserved(kept);
         }
-        Ok(())
+        Ok(is_new)
     }
 
     fn add_all(&mut self, names: &[JText]) -> Result<(), NoMemory>
         ensures { OnOk result (self.new ≡ joined self.old names.now) }
     {
         for name in names {
-            self.add(name)?;
+            let _ = self.add(name)?;
         }
         Ok(())
     }
 
-    // Adds the name that a node declares as a function.
-    fn add_function(&mut self, node: &Node) -> Result<(), NoMemory>
-        ensures { OnOk result (self.new ≡ joined self.old (function_name node.now)) }
+    // Adds the names of functions.
+    fn add_functions(&mut self, functions: &[Declared]) -> Result<(), NoMemory>
+        ensures { OnOk result (self.new ≡ joined self.old (names_of functions.now)) }
     {
-        match node {
-            Node::Declaration { name, .. } => self.add(name),
-            _ => Ok(()),
+        for function in functions {
+            let _ = self.add(&function.name)?;
         }
+        Ok(())
     }
 
-    // Adds `arguments`, where it stands among these texts.
-    fn add_arguments(&mut self, alloc: Global, texts: &[JText]) -> Result<(), NoMemory>
-        ensures { OnOk result (self.new ≡ joined self.old (if is_among arguments texts.now then arguments ∷ [] else [])) }
+    // Adds `arguments`, where it stands among these texts, and says whether it is a new name.
+    fn add_arguments(&mut self, alloc: Global, texts: &[JText]) -> Result<bool, NoMemory>
+        ensures new { IfOk result (λ is_object. is_object ≡ (is_among arguments texts.now && is_new self.old arguments)) }
+        ensures ok { OnOk result (self.new ≡ joined self.old (if is_among arguments texts.now then arguments ∷ [] else [])) }
     {
         let arguments = JText::from_units(alloc, &ARGUMENTS)?;
         if has(texts, &arguments) {
             self.add(&arguments)
         } else {
-            Ok(())
+            Ok(false)
         }
     }
 
-    fn add_own(&mut self, name: Option<&JText>) -> Result<(), NoMemory>
-        ensures { OnOk result (self.new ≡ joined self.old (option_to_list (option_copied name.entry))) }
+    // Adds a function's own name, and says whether it is a new one.
+    fn add_own(&mut self, name: Option<&JText>) -> Result<bool, NoMemory>
+        ensures new { IfOk result (λ is_own. is_own ≡ is_own_name self.old (option_copied name.entry)) }
+        ensures ok { OnOk result (self.new ≡ joined self.old (option_to_list (option_copied name.entry))) }
     {
         match name {
             Some(name) => self.add(name),
-            None => Ok(()),
+            None => Ok(false),
         }
     }
 
@@ -124,53 +129,78 @@ impl Names {
     }
 }
 
-impl Script {
-    // Adds the names of the functions that are declared among these statements.
-    fn add_functions(&self, names: &mut Names, statements: &[NodeId]) -> Result<(), NoMemory>
-        requires { IsWithin (length self.now.kept) (length self.now.pending) (nodes statements.now) }
-        ensures { OnOk result ((bodies : ℕ → Tree) (t : Tree) → Holds bodies self.now.kept (nodes statements.now) t → names.new ≡ joined names.old (functions_in t)) }
-    {
-        for id in statements {
-            names.add_function(self.node(*id))?;
+// Puts what a node that begins at this unit declares behind these.
+fn push_declared(functions: &mut Vec<Declared>, node: &Node, from: u32) -> Result<(), NoMemory>
+    ensures { OnOk result (functions.new.items ≡ functions.old.items ++ declared_by node.now from) }
+{
+    match node {
+        Node::Declaration { head, .. } => {
+            let name = head.name.copy()?;
+            functions.reserve(1)?;
+            functions.push_reserved(Declared { name, at: from });
+            Ok(())
         }
-        Ok(())
+        _ => Ok(()),
+    }
+}
+
+impl Script {
+    // The functions that are declared among these statements.
+    fn functions_in(&self, alloc: Global, statements: &[NodeId]) -> Result<Vec<Declared>, NoMemory>
+        requires { IsWithin (length self.now.kept) (length self.now.pending) (nodes statements.now) }
+        ensures { IfOk result (λ found. (bodies : ℕ → Tree) (t : Tree) → Holds bodies self.now.kept (nodes statements.now) t → found.items ≡ functions_in t) }
+    {
+        let mut found = Vec::new(alloc);
+        for id in statements {
+            let (from, _) = self.span(*id);
+            push_declared(&mut found, self.node(*id), from)?;
+        }
+        Ok(found)
     }
 
     /// What a program of these statements declares.
-    pub fn program_names(
-        &self,
-        alloc: Global,
-        statements: &[NodeId],
-    ) -> Result<Listed<JText>, NoMemory>
+    pub fn program_scope(&self, alloc: Global, statements: &[NodeId]) -> Result<Scope, NoMemory>
         requires { IsWithin (length self.now.kept) (length self.now.pending) (nodes statements.now) }
-        ensures { IfOk result (λ names. (bodies : ℕ → Tree) (t : Tree) → Holds bodies self.now.kept (nodes statements.now) t → names ≡ program_names t) }
+        ensures { IfOk result (λ scope. (bodies : ℕ → Tree) (t : Tree) → Holds bodies self.now.kept (nodes statements.now) t → scope ≡ program_scope t) }
     {
         let vars = self.texts_in(alloc, statements, Wanted::Vars)?;
+        let functions = self.functions_in(alloc, statements)?;
         let mut names = Names::new(alloc);
-        self.add_functions(&mut names, statements)?;
+        names.add_functions(&functions)?;
         names.add_all(&vars)?;
-        Ok(names.into_list())
+        Ok(Scope {
+            names: names.into_list(),
+            functions: Listed::of(functions),
+            has_arguments: false,
+            has_own_name: false,
+        })
     }
 
-    /// The names of a call's scope, for a function of these parameters, its own name where it has one, and these statements.
-    pub fn scope_names(
+    /// The scope of a call, for a function of these parameters, its own name where it has one, and these statements.
+    pub fn call_scope(
         &self,
         alloc: Global,
         parameters: &[JText],
         own: Option<&JText>,
         statements: &[NodeId],
-    ) -> Result<Listed<JText>, NoMemory>
+    ) -> Result<Scope, NoMemory>
         requires { IsWithin (length self.now.kept) (length self.now.pending) (nodes statements.now) }
-        ensures { IfOk result (λ names. (bodies : ℕ → Tree) (t : Tree) → Holds bodies self.now.kept (nodes statements.now) t → names ≡ scope_names parameters.now (option_to_list (option_copied own.entry)) t) }
+        ensures { IfOk result (λ scope. (bodies : ℕ → Tree) (t : Tree) → Holds bodies self.now.kept (nodes statements.now) t → scope ≡ call_scope parameters.now (option_copied own.entry) t) }
     {
         let variables = self.texts_in(alloc, statements, Wanted::Variables)?;
         let vars = self.texts_in(alloc, statements, Wanted::Vars)?;
+        let functions = self.functions_in(alloc, statements)?;
         let mut names = Names::new(alloc);
         names.add_all(parameters)?;
-        self.add_functions(&mut names, statements)?;
-        names.add_arguments(alloc, &variables)?;
+        names.add_functions(&functions)?;
+        let has_arguments = names.add_arguments(alloc, &variables)?;
         names.add_all(&vars)?;
-        names.add_own(own)?;
-        Ok(names.into_list())
+        let has_own_name = names.add_own(own)?;
+        Ok(Scope {
+            names: names.into_list(),
+            functions: Listed::of(functions),
+            has_arguments,
+            has_own_name,
+        })
     }
 }

@@ -45,6 +45,48 @@ pub struct Catch {
     pub statements: Listed<NodeId>,
 }
 
+/// A try: its block, and what stands behind it (12.14).
+#[derive(Debug, Drop)]
+pub struct Guarded {
+    pub block: Listed<NodeId>,
+    pub catch: Option<Catch>,
+    pub finally: Option<Listed<NodeId>>,
+}
+
+/// What stands in front of the body of a function expression (13).
+#[derive(Debug, Drop)]
+pub struct ExpressionHead {
+    pub name: Option<JText>,
+    pub parameters: Listed<JText>,
+}
+
+/// What stands in front of the body of a function declaration (13).
+#[derive(Debug, Drop)]
+pub struct DeclarationHead {
+    pub name: JText,
+    pub parameters: Listed<JText>,
+}
+
+/// A function that is declared among statements.
+#[derive(Debug, Drop)]
+pub struct Declared {
+    pub name: JText,
+    /// The function's first unit, by which its text knows it.
+    pub at: u32,
+}
+
+/// The names of a scope, each once and in their order, and what they are (10.5).
+#[derive(Debug, Drop)]
+pub struct Scope {
+    pub names: Listed<JText>,
+    /// The declarations, also where several have one name: the last one counts then.
+    pub functions: Listed<Declared>,
+    /// Whether `arguments` is among the names as the object of a call's arguments.
+    pub has_arguments: bool,
+    /// Whether a function's own name is among the names as that function.
+    pub has_own_name: bool,
+}
+
 /// A node of a tree, with one variant for each production (clauses 11 to 14). Parentheses are no node.
 #[derive(Debug, Drop)]
 pub enum Node {
@@ -59,8 +101,7 @@ pub enum Node {
     Array(Listed<Option<NodeId>>),
     Object(Listed<Entry>),
     Function {
-        name: Option<JText>,
-        parameters: Listed<JText>,
+        head: Box<ExpressionHead>,
         body: BodyId,
     },
     Member {
@@ -159,45 +200,47 @@ pub enum Node {
         cases: Listed<Case>,
     },
     Throw(NodeId),
-    Try {
-        block: Listed<NodeId>,
-        catch: Option<Catch>,
-        finally: Option<Listed<NodeId>>,
-    },
+    Try(Box<Guarded>),
     Declaration {
-        name: JText,
-        parameters: Listed<JText>,
+        head: Box<DeclarationHead>,
         body: BodyId,
     },
-    /// The names are those that the program declares.
+    /// The scope is what the program declares.
     Program {
         statements: Listed<NodeId>,
-        names: Listed<JText>,
+        scope: Box<Scope>,
     },
-    /// The names are those of a call's scope.
+    /// The scope is that of a call.
     Handler {
         statements: Listed<NodeId>,
-        names: Listed<JText>,
+        scope: Box<Scope>,
     },
-    /// The names are those of a call's scope.
+    /// The scope is that of a call.
     Body {
         statements: Listed<NodeId>,
-        names: Listed<JText>,
+        scope: Box<Scope>,
     },
 }
 
 impl Node {
-    ghost use Rattle.js_tree.specs.Arena.{names_of};
+    ghost use Rattle.std.specs.Option.{option_copied};
+    ghost use Rattle.js_tree.specs.Arena.{is_handler, scope_of};
 
-    // The names that a program or a body carries.
-    pub(crate) fn names(&self) -> &[JText]
-        ensures { result.now ≡ names_of self.now }
+    // The scope that a program or a body carries.
+    pub(crate) fn scope(&self) -> Option<&Scope>
+        ensures { option_copied result ≡ scope_of self.now }
     {
         match self {
-            Node::Program { names, .. } => names.as_slice(),
-            Node::Handler { names, .. } => names.as_slice(),
-            Node::Body { names, .. } => names.as_slice(),
-            _ => &[],
+            Node::Program { scope, .. } => Some(scope),
+            Node::Handler { scope, .. } => Some(scope),
+            Node::Body { scope, .. } => Some(scope),
+            _ => None,
         }
+    }
+
+    pub(crate) fn is_handler(&self) -> bool
+        ensures { result ≡ is_handler self.now }
+    {
+        matches!(self, Node::Handler { .. })
     }
 }

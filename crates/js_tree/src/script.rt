@@ -1,15 +1,18 @@
 // Scripts: an arena of nodes.
 ghost use Rattle.std.specs.Prelude.{◌≡◌, ◌+◌, ◌<◌, Some, length, slice_get, IfOk, IfSome, OnOk, OnErr};
 ghost use Rattle.js_tree.specs.Trees.{parts};
-ghost use Rattle.js_tree.specs.Arena.{IsOrdered, IsWithin, declared, empty, names_of_body, function_of, node_at, span_at, with_body, with_function, with_node};
+ghost use Rattle.std.specs.Option.{option_copied};
+ghost use Rattle.js_tree.specs.Indexed.{KeepsFunctions, PutsFunction};
+ghost use Rattle.js_tree.specs.Arena.{IsOrdered, IsWithin, declared, empty, function_at, function_of, handler_among, node_at, scope, scope_of_body, span_at, with_body, with_function, with_node};
 
-use crate::node::{BodyId, Node, NodeId};
-use mug_text::{JText, Listed, NoMemory};
-use std::alloc::Global;
+use crate::node::{BodyId, DeclarationHead, ExpressionHead, Node, NodeId, Scope};
+use mug_text::{JText, NoMemory};
+use std::alloc::{AllocError, Global};
+use std::collections::BTreeMap;
 use std::marker::Model;
 
-// There are fewer nodes, and fewer bodies, than 2^32.
-const LIMIT: usize = 4_294_967_295;
+/// A script has at most so many nodes, and at most so many bodies.
+pub const NODES_END: usize = 4_294_967_295;
 
 /// A node with its span: its first unit, and the unit behind its last.
 #[derive(Debug, Drop)]
@@ -46,14 +49,8 @@ pub struct Braces {
 /// What stands in front of a function's body.
 #[derive(Debug, Drop)]
 pub enum FunctionHead {
-    Expression {
-        name: Option<JText>,
-        parameters: Listed<JText>,
-    },
-    Declaration {
-        name: JText,
-        parameters: Listed<JText>,
-    },
+    Expression(Box<ExpressionHead>),
+    Declaration(Box<DeclarationHead>),
 }
 
 impl FunctionHead {
@@ -61,18 +58,19 @@ impl FunctionHead {
         ensures { result ≡ function_of self body }
     {
         match self {
-            FunctionHead::Expression { name, parameters } => Node::Function {
-                name,
-                parameters,
-                body,
-            },
-            FunctionHead::Declaration { name, parameters } => Node::Declaration {
-                name,
-                parameters,
-                body,
-            },
+            FunctionHead::Expression(head) => Node::Function { head, body },
+            FunctionHead::Declaration(head) => Node::Declaration { head, body },
         }
     }
+}
+
+// Puts a function into an index, where its unit finds it from now on.
+fn put_function(index: &mut BTreeMap<u32, NodeId>, unit: u32, id: NodeId) -> Result<(), AllocError>
+    ensures ok { OnOk result (PutsFunction unit id index.old index.new) }
+    ensures err { OnErr result (KeepsFunctions index.old index.new) }
+{
+    let _ = index.insert(unit, id)?;
+    Ok(())
 }
 
 /// A tree in the making.
@@ -81,16 +79,19 @@ pub struct Script {
     nodes: Vec<Kept>,
     pending: Vec<Pending>,
     filled: Vec<Option<NodeId>>,
+    // The functions by their first units.
+    functions: BTreeMap<u32, NodeId>,
 }
 
 impl Model for Script {
     ghost use Rattle.js_tree.specs.Arena.{Arena, IsOrdered};
+    ghost use Rattle.js_tree.specs.Indexed.{IsIndexed};
 
     ghost Value = { Arena };
 
     ghost view = { λ s. record { kept = s.nodes.items; pending = s.pending.items; filled = s.filled.items } };
 
-    ghost invariant = { λ s. IsOrdered (record { kept = s.nodes.items; pending = s.pending.items; filled = s.filled.items }) };
+    ghost invariant = { λ s. IsOrdered (record { kept = s.nodes.items; pending = s.pending.items; filled = s.filled.items }) × IsIndexed s.nodes.items s.pending.items s.functions };
 }
 
 impl Script {
@@ -102,6 +103,7 @@ impl Script {
             nodes: Vec::new(alloc),
             pending: Vec::new(alloc),
             filled: Vec::new(alloc),
+            functions: BTreeMap::new(alloc),
         }
     }
 
@@ -113,7 +115,7 @@ impl Script {
         self.nodes.len()
     }
 
-    /// Puts a node behind the others.
+    /// Puts a node behind the others. A script has fewer than 2^32 nodes: one more is answered as want of memory.
     pub fn add(&mut self, node: Node, from: u32, to: u32) -> Result<NodeId, NoMemory>
         requires { IsWithin (length self.old.kept) (length self.old.pending) (parts node) }
         ensures number { IfOk result (λ id. id.number ≡ length self.old.kept) }
@@ -121,7 +123,7 @@ impl Script {
         ensures err { OnErr result (self.new ≡ self.old) }
     {
         let number = self.nodes.len();
-        if number >= LIMIT {
+        if number >= NODES_END {
             return Err(NoMemory);
         }
         self.nodes.reserve(1)?;
@@ -132,7 +134,8 @@ impl Script {
         })
     }
 
-    /// Puts a function behind the other nodes; its body is the last of those that have to be read.
+    /// Puts a function behind the other nodes; its body is the last of those that have to be read. A script has fewer than 2^32
+    /// nodes and bodies: one more is answered as want of memory.
     pub fn add_function(
         &mut self,
         head: FunctionHead,
@@ -146,7 +149,7 @@ impl Script {
     {
         let number = self.nodes.len();
         let body = self.pending.len();
-        if number >= LIMIT || body >= LIMIT {
+        if number >= NODES_END || body >= NODES_END {
             return Err(NoMemory);
         }
         self.nodes.reserve(1)?;
@@ -158,6 +161,7 @@ impl Script {
         let node = head.with_body(BodyId {
             number: body as u32,
         });
+        put_function(&mut self.functions, from, id)?;
         self.nodes.push_reserved(Kept { node, from, to });
         self.pending.push_reserved(Pending {
             node: id,
@@ -222,27 +226,61 @@ impl Script {
         self.filled[k] = Some(body);
     }
 
+    /// The function that a unit names, in at most logarithmic time: a function by its first unit, and the handler that was added
+    /// last by the unit behind it.
+    pub fn function_at(&self, unit: u32) -> Option<NodeId>
+        ensures is { result ≡ function_at self.now unit }
+        ensures within { IfSome result (λ id. id.number < length self.now.kept) }
+    {
+        match self.handler_to(unit) {
+            Some(id) => Some(id),
+            None => self.functions.get(&unit).copied(),
+        }
+    }
+
+    // The node that was added last, where it is a handler that ends there.
+    fn handler_to(&self, unit: u32) -> Option<NodeId>
+        ensures is { result ≡ handler_among self.now.kept unit }
+        ensures within { IfSome result (λ id. id.number < length self.now.kept) }
+    {
+        let last = self.nodes.last()?;
+        if last.node.is_handler() && last.to == unit {
+            Some(self.root())
+        } else {
+            None
+        }
+    }
+
     /// The names that a program, a handler or a function's body declares; of a function those that its body does, once it is read.
     pub fn declared(&self, id: NodeId) -> &[JText]
         requires { id.number < length self.now.kept }
         ensures { result.now ≡ declared self.now id }
     {
-        let node = self.node(id);
-        match node {
-            Node::Function { body, .. } => self.names_of_body(*body),
-            Node::Declaration { body, .. } => self.names_of_body(*body),
-            _ => node.names(),
+        match self.scope(id) {
+            Some(scope) => scope.names.as_slice(),
+            None => &[],
         }
     }
 
-    // The names that the body carries.
-    fn names_of_body(&self, id: BodyId) -> &[JText]
-        requires { id.number < length self.now.pending }
-        ensures { result.now ≡ names_of_body self.now (slice_get self.now.filled id.number) }
+    /// The scope of a program, a handler or a function's body; of a function that of its body, once it is read.
+    pub fn scope(&self, id: NodeId) -> Option<&Scope>
+        requires { id.number < length self.now.kept }
+        ensures { option_copied result ≡ scope self.now id }
     {
-        match self.filled[id.number as usize] {
-            Some(body) => self.nodes[body.number as usize].node.names(),
-            None => &[],
+        let node = self.node(id);
+        match node {
+            Node::Function { body, .. } => self.scope_of_body(*body),
+            Node::Declaration { body, .. } => self.scope_of_body(*body),
+            _ => node.scope(),
         }
+    }
+
+    // The scope that the body carries.
+    fn scope_of_body(&self, id: BodyId) -> Option<&Scope>
+        requires { id.number < length self.now.pending }
+        ensures { option_copied result ≡ scope_of_body self.now (slice_get self.now.filled id.number) }
+    {
+        let body = self.filled[id.number as usize]?;
+        self.nodes[body.number as usize].node.scope()
     }
 }

@@ -3,9 +3,9 @@ ghost use Rattle.std.specs.Prelude.{◌≡◌, ℕ, true, false, List, ◌∷◌
 ghost use Rattle.js_tree.specs.Trees.{Tree, Part, Holds, at_last, cases, caught, declarators, elements, entries, nodes, perhaps, three, two, one, at, Word};
 ghost use Rattle.js_tree.specs.Names.{texts_in};
 ghost use Rattle.js_tree.specs.Arena.{IsWithin};
-ghost use Rattle.js_tree.specs.Walk.{inside, items_in, opened, part_of, test_of, text_of, wants_variables};
+ghost use Rattle.js_tree.specs.Walk.{inside, inside_expression, inside_statement, items_in, opened, part_of, test_of, text_of, wants_variables};
 
-use crate::node::{Case, Catch, Declarator, Entry, Node, NodeId};
+use crate::node::{Case, Catch, Declarator, Entry, Guarded, Node, NodeId};
 use crate::script::Script;
 use mug_text::{JText, Listed, NoMemory};
 use std::alloc::Global;
@@ -150,40 +150,11 @@ fn push_last(stack: &mut Vec<Item>, finally: &Option<Listed<NodeId>>) -> Result<
     }
 }
 
-// What stands in a node, the first on top.
-fn push_inside(stack: &mut Vec<Item>, node: &Node, wanted: Wanted) -> Result<(), NoMemory>
-    ensures { OnOk result (reverse stack.new.items ≡ inside wanted node.now ++ reverse stack.old.items) }
+// What stands in a statement, the first on top; nothing of another node.
+fn push_in_statement(stack: &mut Vec<Item>, node: &Node, wanted: Wanted) -> Result<(), NoMemory>
+    ensures { OnOk result (reverse stack.new.items ≡ inside_statement wanted node.now ++ reverse stack.old.items) }
 {
     match node {
-        Node::This | Node::Null | Node::Bool(_) | Node::Number(_) | Node::Text(_) => Ok(()),
-        Node::Function { .. } | Node::Declaration { .. } => Ok(()),
-        Node::Empty | Node::Continue(_) | Node::Break(_) => Ok(()),
-        Node::Name(name) => push_name(stack, name, wanted),
-        Node::Array(ids) => push_options(stack, ids.as_slice()),
-        Node::Object(list) => push_entries(stack, list.as_slice()),
-        Node::Member { object, .. } => push_node(stack, *object),
-        Node::Index { object, key } => push_nodes(stack, &[*object, *key]),
-        Node::Call { callee, arguments } => {
-            push_nodes(stack, arguments.as_slice())?;
-            push_node(stack, *callee)
-        }
-        Node::New { callee, arguments } => {
-            push_nodes(stack, arguments.as_slice())?;
-            push_node(stack, *callee)
-        }
-        Node::Postfix { target, .. } => push_node(stack, *target),
-        Node::Prefix { target, .. } => push_node(stack, *target),
-        Node::Unary { operand, .. } => push_node(stack, *operand),
-        Node::Binary { left, right, .. } => push_nodes(stack, &[*left, *right]),
-        Node::And { left, right } => push_nodes(stack, &[*left, *right]),
-        Node::Or { left, right } => push_nodes(stack, &[*left, *right]),
-        Node::Conditional {
-            test,
-            then,
-            otherwise,
-        } => push_nodes(stack, &[*test, *then, *otherwise]),
-        Node::Assign { target, value, .. } => push_nodes(stack, &[*target, *value]),
-        Node::Comma { left, right } => push_nodes(stack, &[*left, *right]),
         Node::Block(statements) => push_nodes(stack, statements.as_slice()),
         Node::Var(list) => push_declarators(stack, list.as_slice()),
         Node::Expression(expression) => push_node(stack, *expression),
@@ -207,24 +178,73 @@ fn push_inside(stack: &mut Vec<Item>, node: &Node, wanted: Wanted) -> Result<(),
         } => push_nodes(stack, &[*target, *object, *body]),
         Node::Return(value) => push_option(stack, *value),
         Node::Labelled { body, .. } => push_node(stack, *body),
-        Node::Switch { value, cases } => {
-            push_cases(stack, cases.as_slice())?;
-            push_node(stack, *value)
-        }
+        Node::Switch { value, cases } => push_switch(stack, *value, cases.as_slice()),
         Node::Throw(value) => push_node(stack, *value),
-        Node::Try {
-            block,
-            catch,
-            finally,
-        } => {
-            push_last(stack, finally)?;
-            push_catch(stack, catch, wanted)?;
-            push_nodes(stack, block.as_slice())
-        }
+        Node::Try(guarded) => push_guarded(stack, guarded, wanted),
         Node::Program { statements, .. } => push_nodes(stack, statements.as_slice()),
         Node::Handler { statements, .. } => push_nodes(stack, statements.as_slice()),
         Node::Body { statements, .. } => push_nodes(stack, statements.as_slice()),
+        _ => Ok(()),
     }
+}
+
+fn push_switch(stack: &mut Vec<Item>, value: NodeId, list: &[Case]) -> Result<(), NoMemory>
+    ensures { OnOk result (reverse stack.new.items ≡ items_in false (two (at value) (cases list.now)) ++ reverse stack.old.items) }
+{
+    push_cases(stack, list)?;
+    push_node(stack, value)
+}
+
+fn push_guarded(stack: &mut Vec<Item>, guarded: &Guarded, wanted: Wanted) -> Result<(), NoMemory>
+    ensures { OnOk result (reverse stack.new.items ≡ items_in (wants_variables wanted) (three (nodes guarded.now.block) (caught guarded.now.catch) (at_last guarded.now.finally)) ++ reverse stack.old.items) }
+{
+    push_last(stack, &guarded.finally)?;
+    push_catch(stack, &guarded.catch, wanted)?;
+    push_nodes(stack, guarded.block.as_slice())
+}
+
+// What stands in an expression, the first on top; nothing of another node.
+fn push_in_expression(stack: &mut Vec<Item>, node: &Node, wanted: Wanted) -> Result<(), NoMemory>
+    ensures { OnOk result (reverse stack.new.items ≡ inside_expression wanted node.now ++ reverse stack.old.items) }
+{
+    match node {
+        Node::Name(name) => push_name(stack, name, wanted),
+        Node::Array(ids) => push_options(stack, ids.as_slice()),
+        Node::Object(list) => push_entries(stack, list.as_slice()),
+        Node::Member { object, .. } => push_node(stack, *object),
+        Node::Index { object, key } => push_nodes(stack, &[*object, *key]),
+        Node::Call { callee, arguments } => push_call(stack, *callee, arguments.as_slice()),
+        Node::New { callee, arguments } => push_call(stack, *callee, arguments.as_slice()),
+        Node::Postfix { target, .. } => push_node(stack, *target),
+        Node::Prefix { target, .. } => push_node(stack, *target),
+        Node::Unary { operand, .. } => push_node(stack, *operand),
+        Node::Binary { left, right, .. } => push_nodes(stack, &[*left, *right]),
+        Node::And { left, right } => push_nodes(stack, &[*left, *right]),
+        Node::Or { left, right } => push_nodes(stack, &[*left, *right]),
+        Node::Conditional {
+            test,
+            then,
+            otherwise,
+        } => push_nodes(stack, &[*test, *then, *otherwise]),
+        Node::Assign { target, value, .. } => push_nodes(stack, &[*target, *value]),
+        Node::Comma { left, right } => push_nodes(stack, &[*left, *right]),
+        _ => Ok(()),
+    }
+}
+
+fn push_call(stack: &mut Vec<Item>, callee: NodeId, arguments: &[NodeId]) -> Result<(), NoMemory>
+    ensures { OnOk result (reverse stack.new.items ≡ items_in false (two (at callee) (nodes arguments.now)) ++ reverse stack.old.items) }
+{
+    push_nodes(stack, arguments)?;
+    push_node(stack, callee)
+}
+
+// What stands in a node, the first on top.
+fn push_inside(stack: &mut Vec<Item>, node: &Node, wanted: Wanted) -> Result<(), NoMemory>
+    ensures { OnOk result (reverse stack.new.items ≡ inside wanted node.now ++ reverse stack.old.items) }
+{
+    push_in_statement(stack, node, wanted)?;
+    push_in_expression(stack, node, wanted)
 }
 
 impl Script {

@@ -1,7 +1,7 @@
 use Rattle.std.proofs.Common.{◌≡◌, ◌<◌, Bool, true, false, ◌||◌, length, take, sym, ◌∙◌, ap, arith}
 use Rattle.std.proofs.lemmas.List.{drop_all, take_rest, length-drop}
 use Rattle.std.specs.List.{list_any}
-use Rattle.js_tokens.specs.Units.{is_line_end}
+use Rattle.mug_text.specs.Characters.{is_line_end}
 use Rattle.js_tokens.specs.Gaps.{blank}
 use Rattle.js_tokens.proofs.Comments.{gap_end, gap_more, dry_later}
 use Rattle.js_tokens.proofs.gaps.gap_at.Goals as goal

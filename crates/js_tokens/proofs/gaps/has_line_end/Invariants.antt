@@ -1,6 +1,6 @@
 use Rattle.std.proofs.Common.{◌≡◌, drop}
 use Rattle.std.specs.List.{list_any}
-use Rattle.js_tokens.specs.Units.{is_line_end}
+use Rattle.mug_text.specs.Characters.{is_line_end}
 use Rattle.js_tokens.proofs.gaps.has_line_end.Given as goal
 
 abbrev pub invariant-loop-unit : goal.invariant-loop-unit

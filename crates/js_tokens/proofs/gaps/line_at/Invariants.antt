@@ -1,7 +1,7 @@
 use Rattle.std.proofs.Common.{◌≡◌, ◌+◌, length, drop}
 use Rattle.std.specs.Prelude.{not}
 use Rattle.std.specs.List.{take_while}
-use Rattle.js_tokens.specs.Units.{is_line_end}
+use Rattle.mug_text.specs.Characters.{is_line_end}
 use Rattle.js_tokens.proofs.gaps.line_at.Given as goal
 
 abbrev pub invariant-loop-index : goal.invariant-loop-index

@@ -9,10 +9,10 @@ returns-in-None c z w n (h, (a, b, d, e, f)) =
     let is : n ≡ c.run_at-len.result = number_run c.args.units.now n h a d ∙ sym c.run_at-len.ensures.is in
     cc (sym a ∙ ap (λ k. is_numeral (take k c.args.units.now)) is ∙ c.in-None.ensures)
 
-pub returns-then-value-ge-TOO_LARGE : goal.returns-then-value-ge-TOO_LARGE
-returns-then-value-ge-TOO_LARGE c z w n (h, (a, b, d, e, f)) =
+pub returns-then-value-ge-SAFE_END : goal.returns-then-value-ge-SAFE_END
+returns-then-value-ge-SAFE_END c z w n (h, (a, b, d, e, f)) =
     let is : n ≡ c.run_at-len.result = number_run c.args.units.now n h a d ∙ sym c.run_at-len.ensures.is in
-    omega (arith, ap (λ k. numeral_value (take k c.args.units.now)) is, c.in-Some.ensures.1, c.if-value-ge-TOO_LARGE.true)
+    omega (arith, ap (λ k. numeral_value (take k c.args.units.now)) is, c.in-Some.ensures.1, c.if-value-ge-SAFE_END.true)
 
 pub returns-then-goes_on : goal.returns-then-goes_on
 returns-then-goes_on c z w n (h, (a, b, d, e, f)) =

@@ -42,6 +42,6 @@ tokens-preserved c =
     record {
       high = omega (arith, longest.0.0, length-drop from text, pos);
       dry = λ h. dry_later text from found.len (ap (λ z. star_slash (drop 2 z)) (sym (drop_drop c.tokens.at gap-len text) ∙ ap (drop gap-len) (sym e)) ∙ c.gap_at-gap.ensures.dry h);
-      on = λ ts h. subst (TokensFrom text 0) (sym (append_assoc c.tokens.items.items (t ∷ []) ts) ∙ ap (λ z. z ++ ts) (sym c.in-Ok.ensures.items)) (c.tokens.invariant.on (t ∷ ts) (next is h));
+      on = λ ts h. subst (TokensFrom text 0) (sym (append_assoc c.tokens.items.items (t ∷ []) ts) ∙ ap (λ z. z ++ ts) (sym c.in_ok-push-in-Some.ensures.items)) (c.tokens.invariant.on (t ∷ ts) (next is h));
       refused = λ p h. c.tokens.invariant.refused p (later t is h);
     }
