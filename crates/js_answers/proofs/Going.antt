@@ -53,6 +53,10 @@ pub semicolon_on : {tokens : Tokens} {names : Names} {r : Reading} → IsAt toke
 semicolon_on {tokens = tokens} {names = names} {r = r} a start vs e l now is h =
     subst (λ z. Goes (text_of tokens names start) (Semicolon ∷ reverse r.stack.items) vs r.place step.On z) (sym is) (vs, h, λ o d. ends.semicolon (sym (ap (λ u. u.seen) a.seen) ∙ e) l d)
 
+pub semicolon_deep : {tokens : Tokens} {names : Names} {r : Reading} → IsAt tokens names r → (start : Start) (vs : List Tree) → r.sight.seen ≡ seen.Word w.Semicolon → limit < nesting (reverse r.stack.items) →
+    Ends (text_of tokens names start) (Semicolon ∷ reverse r.stack.items) vs r.place (TooDeep r.place)
+semicolon_deep a start vs e l = ends.deep_semicolon (sym (ap (λ u. u.seen) a.seen) ∙ e) l
+
 pub semicolon_inserted : {tokens : Tokens} {names : Names} {r : Reading} → IsAt tokens names r → (start : Start) (vs : List Tree) → r.sight.seen ≢ seen.Word w.Semicolon → may_insert r.sight ≡ true →
     HoldsTrees r.trees vs → Goes (text_of tokens names start) (Semicolon ∷ reverse r.stack.items) vs r.place step.On r
 semicolon_inserted a start vs n m h = (vs, h, λ o d. ends.inserted (λ e. n (ap (λ u. u.seen) a.seen ∙ e)) (sym (ap may_insert a.seen) ∙ m) d)
@@ -65,6 +69,10 @@ pub free_on : {tokens : Tokens} {names : Names} {r : Reading} → IsAt tokens na
     (now : Reading) → now ≡ beyond tokens names r → HoldsTrees r.trees vs → Goes (text_of tokens names start) (FreeSemicolon ∷ reverse r.stack.items) vs r.place step.On now
 free_on {tokens = tokens} {names = names} {r = r} a start vs e l now is h =
     subst (λ z. Goes (text_of tokens names start) (FreeSemicolon ∷ reverse r.stack.items) vs r.place step.On z) (sym is) (vs, h, λ o d. ends.free_semicolon (sym (ap (λ u. u.seen) a.seen) ∙ e) l d)
+
+pub free_deep : {tokens : Tokens} {names : Names} {r : Reading} → IsAt tokens names r → (start : Start) (vs : List Tree) → r.sight.seen ≡ seen.Word w.Semicolon → limit < nesting (reverse r.stack.items) →
+    Ends (text_of tokens names start) (FreeSemicolon ∷ reverse r.stack.items) vs r.place (TooDeep r.place)
+free_deep a start vs e l = ends.deep_free_semicolon (sym (ap (λ u. u.seen) a.seen) ∙ e) l
 
 pub free_inserted : {tokens : Tokens} {names : Names} {r : Reading} → IsAt tokens names r → (start : Start) (vs : List Tree) → r.sight.seen ≢ seen.Word w.Semicolon →
     HoldsTrees r.trees vs → Goes (text_of tokens names start) (FreeSemicolon ∷ reverse r.stack.items) vs r.place step.On r

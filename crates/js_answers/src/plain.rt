@@ -270,7 +270,7 @@ impl Reading {
     {
         if is_seen(self.sight.seen, Word::Semicolon) {
             if !self.may_stand() {
-                return Ok(Step::Stuck);
+                return Ok(Step::TooDeep(self.place));
             }
             self.advance(alloc, tokens, names)?;
             return Ok(Step::On);
@@ -297,7 +297,7 @@ impl Reading {
             return Ok(Step::On);
         }
         if !self.may_stand() {
-            return Ok(Step::Stuck);
+            return Ok(Step::TooDeep(self.place));
         }
         self.advance(alloc, tokens, names)?;
         Ok(Step::On)

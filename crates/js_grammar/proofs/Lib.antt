@@ -7,3 +7,5 @@ pub mod Verdicts
 pub mod PrecedenceFit
 pub mod PrecedenceParting
 pub mod PrecedenceLaws
+pub mod Sound
+pub mod Total

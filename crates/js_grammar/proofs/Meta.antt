@@ -200,9 +200,11 @@ some (ends.refused f) h = cc
 some (ends.goes_on f) h = cc
 some ends.never h = cc
 some (ends.semicolon f room d) h = cc
+some (ends.deep_semicolon f r) h = cc
 some (ends.inserted f m d) h = cc
 some (ends.missing f m) h = cc
 some (ends.free_semicolon f room d) h = cc
+some (ends.deep_free_semicolon f r) h = cc
 some (ends.free_inserted f d) h = cc
 some (ends.expands d) h = cc
 some (ends.makes d) h = cc
@@ -217,12 +219,14 @@ answers (ends.refused f) a = stuck a f (λ z e. cc) (λ s' vs' d. no_token f d) 
 answers (ends.goes_on f) a = stuck a (λ c. c) (λ z e. cc) (λ s' vs' d. no_end f d) (λ s' vs' d. no_inserted_end d)
 answers ends.never a = stuck a (λ c. c) (λ z e. cc) (λ s' vs' d. no_never d) (λ s' vs' d. no_never d)
 answers (ends.semicolon {s = s} f room d) a = answers d (forward a (semicolon f so_far) room (some d) (loosen s (guard_true a)))
+answers (ends.deep_semicolon {s = s} {vs = vs} f r) a = (a.ws, s, vs, a.reading, reached a (semicolon f so_far), r)
 answers (ends.inserted f m d) a = answers d (insertion f m a)
 answers (ends.missing f m) a = (a.ws, a.reading, no_more a (λ s' vs' d. no_semicolon f d), λ n. not_there m a n)
   where
     not_there : {t : Text} {s : List Symbol} {vs : List Tree} {i : ℕ} → may_insert (at t i) ≡ false → (a : At t (Semicolon ∷ s) vs i) → MayInsert t a.ws i → Prefix t.start (a.ws ++ before t i ∷ []) → ⊥
     not_there m a n = elim n [ inl h ↦ cc | inr k ↦ cc (a.still k.0 (unique a.origin k.2).0) ]
 answers (ends.free_semicolon {s = s} f room d) a = answers d (forward a (free_semicolon f so_far) room (some d) (loosen s (guard_true a)))
+answers (ends.deep_free_semicolon {s = s} {vs = vs} f r) a = (a.ws, s, vs, a.reading, reached a (free_semicolon f so_far), r)
 answers (ends.free_inserted f d) a = answers d (free_insertion f a)
 answers (ends.expands d) a = answers d (expansion a)
 answers (ends.makes d) a = answers d (making a)

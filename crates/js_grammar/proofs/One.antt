@@ -5,7 +5,7 @@ use Rattle.js_grammar.specs.declared.symbol.Symbol.{Symbol}
 use Rattle.js_grammar.specs.Parts.{nesting}
 use Rattle.js_grammar.specs.Derivations.{Lexeme, Derives, beginning, Prefix}
 use Rattle.js_grammar.specs.Answers.{Text, limit, given, before, MayInsert, Reading, start, next, insert, Accepted, Unexpected, TooDeep}
-use Rattle.js_grammar.specs.Laws.{OneAnswer, FirstRefused}
+use Rattle.js_grammar.specs.Laws.{OneAnswer, FirstRefused, FirstTooDeep}
 use Rattle.js_grammar.proofs.Derived.{unique}
 
 -- from one point of the reading to a later one
@@ -111,6 +111,19 @@ first_refused text i (ws, r, n, m) = (
   fronts r,
   λ j us h r'. elim (fork (from_start r) (from_start r')) [
     | inl p ↦ absurd (omega (arith, (stays_there text i ws n m j us p)))
+    | inr p ↦ absurd (omega (arith, forth p))
+  ],
+)
+
+deep_there : (text : Text) (i : ℕ) (ws : List Lexeme) (s : List Symbol) (vs : List Tree) → Derives (beginning text.start) [] (ws ++ given text i ∷ []) s vs → limit < nesting s → (j : ℕ) (us : List Lexeme) → Path text i ws j us → i ≡ j
+unfolding Ends
+deep_there text i ws s vs d l j us p = (deep_ends text i ws s vs d l j us p).0
+
+pub first_too_deep : FirstTooDeep
+first_too_deep text i (ws, s, vs, r, d, l) = (
+  fronts r,
+  λ j us h r'. elim (fork (from_start r) (from_start r')) [
+    | inl p ↦ absurd (omega (arith, (deep_there text i ws s vs d l j us p)))
     | inr p ↦ absurd (omega (arith, forth p))
   ],
 )

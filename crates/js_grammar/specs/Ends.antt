@@ -33,12 +33,16 @@ pub data Ends (text : Text) : List Symbol → List Tree → ℕ → Outcome → 
   never : {s : List Symbol} {vs : List Tree} {i : ℕ} → Ends text (Never ∷ s) vs i (Unexpected i)
   semicolon : {s : List Symbol} {vs : List Tree} {i : ℕ} {o : Outcome} →
       (at text i).seen ≡ seen.Word w.Semicolon → nesting s ≤ limit → Ends text s vs (i + 1) o → Ends text (Semicolon ∷ s) vs i o
+  deep_semicolon : {s : List Symbol} {vs : List Tree} {i : ℕ} →
+      (at text i).seen ≡ seen.Word w.Semicolon → limit < nesting s → Ends text (Semicolon ∷ s) vs i (TooDeep i)
   inserted : {s : List Symbol} {vs : List Tree} {i : ℕ} {o : Outcome} →
       (at text i).seen ≢ seen.Word w.Semicolon → may_insert (at text i) ≡ true → Ends text s vs i o → Ends text (Semicolon ∷ s) vs i o
   missing : {s : List Symbol} {vs : List Tree} {i : ℕ} →
       (at text i).seen ≢ seen.Word w.Semicolon → may_insert (at text i) ≡ false → Ends text (Semicolon ∷ s) vs i (Unexpected i)
   free_semicolon : {s : List Symbol} {vs : List Tree} {i : ℕ} {o : Outcome} →
       (at text i).seen ≡ seen.Word w.Semicolon → nesting s ≤ limit → Ends text s vs (i + 1) o → Ends text (FreeSemicolon ∷ s) vs i o
+  deep_free_semicolon : {s : List Symbol} {vs : List Tree} {i : ℕ} →
+      (at text i).seen ≡ seen.Word w.Semicolon → limit < nesting s → Ends text (FreeSemicolon ∷ s) vs i (TooDeep i)
   free_inserted : {s : List Symbol} {vs : List Tree} {i : ℕ} {o : Outcome} →
       (at text i).seen ≢ seen.Word w.Semicolon → Ends text s vs i o → Ends text (FreeSemicolon ∷ s) vs i o
   expands : {x : Nonterminal} {s : List Symbol} {vs : List Tree} {i : ℕ} {o : Outcome} →

@@ -1,5 +1,5 @@
 // What holds of the answer of a text, as contracts of functions that do nothing.
-ghost use Rattle.js_grammar.specs.Laws.{OneAnswer, FirstRefused};
+ghost use Rattle.js_grammar.specs.Laws.{OneAnswer, EachHasOneAnswer, FirstRefused, FirstTooDeep};
 ghost use Rattle.js_grammar.specs.Ends.{EndIsAnswer};
 ghost use Rattle.js_grammar.specs.Programs.{OneVerdict};
 
@@ -10,9 +10,19 @@ pub fn an_answer_is_one()
     ensures { OneAnswer }
 {}
 
+/// Each text has exactly one answer.
+pub fn each_text_has_one_answer()
+    ensures { EachHasOneAnswer }
+{}
+
 /// A refusal stands at the first token that can't be read, whatever semicolons are inserted.
 pub fn a_refusal_is_the_first()
     ensures { FirstRefused }
+{}
+
+/// Too deep stands the first token that does, whatever semicolons are inserted.
+pub fn too_deep_is_the_first()
+    ensures { FirstTooDeep }
 {}
 
 /// What a text ends in, step by step, is its answer.

@@ -7,7 +7,10 @@ mod precedence;
 mod sight;
 mod symbol;
 
-pub use laws::{a_refusal_is_the_first, a_verdict_is_one, an_answer_is_one, an_end_is_the_answer};
+pub use laws::{
+    a_refusal_is_the_first, a_verdict_is_one, an_answer_is_one, an_end_is_the_answer,
+    each_text_has_one_answer, too_deep_is_the_first,
+};
 pub use precedence::{
     an_expression_comes_first, an_expression_is_anywhere, an_operation_is_one,
     an_operation_is_written,
