@@ -1,17 +1,23 @@
 -- Functions of a value's image can't tell a wrap from what it calls, and neither can the rows, which are functions of both images.
-use Rattle.std.proofs.Common.{◌≡◌, ◌++◌, ◌&&◌, ◌||◌, if◌then◌else◌, is_some, Some, ap, ◌∙◌}
+use Rattle.std.proofs.Common.{◌≡◌, ◌++◌, ◌&&◌, ◌||◌, Bool, false, if◌then◌else◌, is_some, Option, Some, ap, ◌∙◌}
+use Rattle.std.specs.Option.{option_map}
 use Rattle.std.specs.Cmp.Lexicographic.{slice_cmp}
 use Rattle.std.specs.Ordering.{is_lt, nat_cmp}
 use Rattle.js_value.proofs.Images.{image-image}
-use Rattle.js_value.specs.Image.{image}
+use Rattle.js_value.specs.Image.{image, image_is_primitive}
 use Rattle.js_value.specs.Number.{num_equal}
-use Rattle.js_value.specs.Same.{text_equal}
+use Rattle.js_value.specs.Same.{images_same, text_equal}
 use Rattle.js_value.specs.declared.number.Num.TheVariants.{Whole}
 use Rattle.js_value.specs.declared.value.Value.{Value}
 use Rattle.js_value.specs.declared.value.Value.TheVariants.{Num}
 use Rattle.js_ops.specs.Convert.{image_to_number, image_to_text, image_as_text, image_is_missing, to_number, to_text, as_text, is_missing}
 use Rattle.js_ops.specs.Numbers.{wholes, sum, whole_result, to_uint32, bits_result, number_less}
 use Rattle.js_ops.specs.Rows as rows
+use Rattle.js_ops.specs.declared.equality.Equality.{Equality}
+use Rattle.js_ops.specs.declared.equality.Equality.TheVariants.{Is, Converts}
+use Rattle.js_ops.specs.declared.equality.Hint.TheVariants.{Default}
+use Rattle.js_ops.specs.declared.equality.Side.{Side}
+use Rattle.js_ops.specs.declared.equality.Side.TheVariants.{Left, Right}
 use Rattle.js_ops.specs.declared.number.Arith.{Arith}
 use Rattle.js_ops.specs.declared.number.Bits.{Bits}
 
@@ -43,5 +49,14 @@ bits-image op v w = of_images (λ x y. rows.both_numbers (λ m n. Some (Num (Who
 pub less-image : (v w : Value) → rows.less (image v) (image w) ≡ rows.less v w
 less-image v w = of_images (λ x y. rows.both_texts (λ s t. Some (Some (is_lt (slice_cmp nat_cmp s t)))) (rows.both_numbers (λ m n. Some (number_less m n)) (image_to_number x) (image_to_number y)) (image_as_text x) (image_as_text y)) v w
 
+abbrev images_equal : Value → Value → Option Bool
+images_equal x y = if image_is_missing x || image_is_missing y then Some (image_is_missing x && image_is_missing y) else rows.both_texts (λ s t. Some (text_equal s t)) (rows.both_numbers (λ m n. Some (num_equal m n)) (image_to_number x) (image_to_number y)) (image_as_text x) (image_as_text y)
+
+abbrev images_equal_object : Value → Side → Equality
+images_equal_object x side = if image_is_missing x then Is false else Converts side Default
+
+pub equal_primitives-image : (v w : Value) → rows.equal_primitives (image v) (image w) ≡ rows.equal_primitives v w
+equal_primitives-image v w = of_images images_equal v w
+
 pub equal-image : (v w : Value) → rows.equal (image v) (image w) ≡ rows.equal v w
-equal-image v w = of_images (λ x y. if image_is_missing x || image_is_missing y then Some (image_is_missing x && image_is_missing y) else rows.both_texts (λ s t. Some (text_equal s t)) (rows.both_numbers (λ m n. Some (num_equal m n)) (image_to_number x) (image_to_number y)) (image_as_text x) (image_as_text y)) v w
+equal-image v w = of_images (λ x y. if image_is_primitive x then (if image_is_primitive y then option_map Is (images_equal x y) else Some (images_equal_object x Right)) else (if image_is_primitive y then Some (images_equal_object y Left) else Some (Is (images_same x y)))) v w

@@ -1,4 +1,4 @@
--- Arithmetic on numbers (ECMA-262 edition 5.1, 9.5, 9.6, 11.5 to 11.7, 11.8.5, 11.10), over integers without a bound.
+-- Arithmetic on numbers (ECMA-262 edition 5.1, 9.4, 9.5, 9.6, 11.5 to 11.7, 11.8.5, 11.10), over integers without a bound.
 use Rattle.std.specs.Prelude.{ℕ, ◌*◌, ◌/◌, ◌%◌, ◌^◌, ℤ, pos, ◌+ℤ◌, ◌-ℤ◌, ◌*ℤ◌, int_div, int_rem, int_lt, unsigned_abs, bit_and, bit_or, bit_xor, Bool, Option, Some, None, if◌then◌else◌}
 use Rattle.std.specs.Int.{w32, cast_signed, int_rem_euclid, int_shr}
 use Rattle.std.specs.Ordering.{int_eq}
@@ -34,6 +34,11 @@ whole_result arith.Mul a b = Some (Whole (a *ℤ b))
 whole_result arith.Div a b = quotient a b
 whole_result arith.Rem a b = remainder a b
 
+-- ToInteger (9.4): 0 of NaN
+abbrev pub to_integer : Num → ℤ
+to_integer (Whole z) = z
+to_integer NaN = pos 0
+
 -- ToUint32 (9.6): modulo 2^32, and 0 of NaN
 abbrev pub to_uint32 : Num → ℕ
 to_uint32 (Whole z) = unsigned_abs (int_rem_euclid z (pos (2 ^ 32)))
@@ -42,6 +47,9 @@ to_uint32 NaN = 0
 -- ToInt32 (9.5) of a number that is so reduced: from 2^31 on, less 2^32
 abbrev pub signed : ℕ → ℤ
 signed x = cast_signed w32 x
+
+abbrev pub to_int32 : Num → ℤ
+to_int32 n = signed (to_uint32 n)
 
 -- 11.10 and 11.7, of 32 bits each; the count of a shift is modulo 32
 abbrev pub bits_result : Bits → ℕ → ℕ → ℤ

@@ -52,7 +52,7 @@ const FALSE: [u16; 5] = [0x66, 0x61, 0x6C, 0x73, 0x65];
 const NAN: [u16; 3] = [0x4E, 0x61, 0x4E];
 
 // The text that the value is.
-pub fn as_text(value: &Value) -> Option<&JText>
+pub(crate) fn as_text(value: &Value) -> Option<&JText>
     ensures { option_copied result ≡ spec.as_text value.now }
 {
     match value {
@@ -62,14 +62,14 @@ pub fn as_text(value: &Value) -> Option<&JText>
 }
 
 // Whether the value is a text.
-pub fn is_text(value: &Value) -> bool
+pub(crate) fn is_text(value: &Value) -> bool
     ensures { result ≡ spec.is_text value.now }
 {
     matches!(value, Value::Text(_))
 }
 
 // Whether the value is undefined or null.
-pub fn is_missing(value: &Value) -> bool
+pub(crate) fn is_missing(value: &Value) -> bool
     ensures { result ≡ spec.is_missing value.now }
 {
     matches!(value, Value::Undefined | Value::Null)

@@ -21,5 +21,6 @@ pub fn rows_look_at_images()
     ensures arith { (op : Arith) (v w : Value) → rows.arith op (image v) (image w) ≡ rows.arith op v w }
     ensures bits { (op : Bits) (v w : Value) → rows.bits op (image v) (image w) ≡ rows.bits op v w }
     ensures less { (v w : Value) → rows.less (image v) (image w) ≡ rows.less v w }
+    ensures equal_primitives { (v w : Value) → rows.equal_primitives (image v) (image w) ≡ rows.equal_primitives v w }
     ensures equal { (v w : Value) → rows.equal (image v) (image w) ≡ rows.equal v w }
 {}

@@ -28,7 +28,7 @@ pub enum Bits {
 }
 
 // The sum, where it is in the profile.
-pub fn sum(a: Num, b: Num) -> Option<Num>
+pub(crate) fn sum(a: Num, b: Num) -> Option<Num>
     ensures { result ≡ option_and_then in_profile (spec.wholes spec.sum a b) }
 {
     let Num::Whole(a) = a else {
@@ -41,7 +41,7 @@ pub fn sum(a: Num, b: Num) -> Option<Num>
 }
 
 // The result, where it is whole and in the profile, or NaN.
-pub fn compute(op: Arith, a: Num, b: Num) -> Option<Num>
+pub(crate) fn compute(op: Arith, a: Num, b: Num) -> Option<Num>
     ensures { result ≡ option_and_then in_profile (spec.wholes (spec.whole_result op) a b) }
 {
     let Num::Whole(a) = a else {
@@ -93,7 +93,24 @@ fn remainder(a: i64, b: i64) -> Option<Num>
     Num::whole(i128::from(a % b))
 }
 
-// Modulo 2^32 (ECMA-262 edition 5.1, 9.6).
+/// ToInteger (ECMA-262 edition 5.1, 9.4): 0 of NaN.
+pub fn to_integer(number: Num) -> Integer
+    ensures { result ≡ spec.to_integer number }
+{
+    match number {
+        Num::Whole(n) => n,
+        Num::NaN => Integer::from(0i32),
+    }
+}
+
+/// ToInt32 (9.5): modulo 2^32, from -2^31 on, and 0 of NaN.
+pub fn to_int32(number: Num) -> i32
+    ensures { result ≡ spec.to_int32 number }
+{
+    to_uint32(number).cast_signed()
+}
+
+/// ToUint32 (9.6): modulo 2^32, and 0 of NaN.
 pub fn to_uint32(number: Num) -> u32
     ensures { result ≡ spec.to_uint32 number }
 {
@@ -104,7 +121,7 @@ pub fn to_uint32(number: Num) -> u32
 }
 
 // The result on 32 bits.
-pub fn combine(op: Bits, x: u32, y: u32) -> Integer
+pub(crate) fn combine(op: Bits, x: u32, y: u32) -> Integer
     ensures { result ≡ spec.bits_result op x y }
 {
     match op {
@@ -118,7 +135,7 @@ pub fn combine(op: Bits, x: u32, y: u32) -> Integer
 }
 
 // Whether a is below b; none where NaN takes part.
-pub fn is_below(a: Num, b: Num) -> Option<bool>
+pub(crate) fn is_below(a: Num, b: Num) -> Option<bool>
     ensures { result ≡ spec.number_less a b }
 {
     let Num::Whole(a) = a else {

@@ -4,14 +4,12 @@ ghost use Rattle.js_value.specs.Image.{IsPrimitive};
 ghost use Rattle.js_ops.specs.Convert as texts;
 ghost use Rattle.js_ops.specs.Rows as rows;
 
-use crate::convert::{as_text, is_missing, is_text, to_number, to_text};
+use crate::convert::{as_text, is_text, to_number, to_text};
 use crate::number::{Arith, Bits, combine, compute, is_below, sum, to_uint32};
 use crate::{AddThrow, RangeThrow};
 use js_value::{Num, Value};
+use mug_text::TEXT_LIMIT;
 use std::alloc::Global;
-
-// The most units of a text that an operator makes.
-const LIMIT: usize = 1 << 24;
 
 /// `+` (11.6.1): the two texts joined where one operand is a text, and else the sum.
 pub fn add(alloc: Global, a: &Value, b: &Value) -> Result<Value, AddThrow>
@@ -38,7 +36,7 @@ fn join(alloc: Global, a: &Value, b: &Value) -> Result<Value, AddThrow>
 {
     let front = to_text(alloc, a)?;
     let back = to_text(alloc, b)?;
-    if front.as_slice().len() + back.as_slice().len() > LIMIT {
+    if front.as_slice().len() + back.as_slice().len() > TEXT_LIMIT {
         return Err(AddThrow::Range);
     }
     Ok(Value::Text(front.concat(&back)?))
@@ -76,20 +74,5 @@ pub fn less(a: &Value, b: &Value) -> Result<Option<bool>, RangeThrow>
     match (as_text(a), as_text(b)) {
         (Some(s), Some(t)) => Ok(Some(s < t)),
         _ => Ok(is_below(to_number(a)?, to_number(b)?)),
-    }
-}
-
-/// `==` (11.9.3), which throws exactly where the number of a text is asked and outside the profile.
-pub fn equal_primitives(a: &Value, b: &Value) -> Result<bool, RangeThrow>
-    requires left { IsPrimitive a.now }
-    requires right { IsPrimitive b.now }
-    ensures { MatchResult result (λ e. rows.equal a.now b.now ≡ Some e) (λ _. rows.equal a.now b.now ≡ None) }
-{
-    if is_missing(a) || is_missing(b) {
-        return Ok(is_missing(a) && is_missing(b));
-    }
-    match (as_text(a), as_text(b)) {
-        (Some(s), Some(t)) => Ok(s == t),
-        _ => Ok(to_number(a)?.equals(to_number(b)?)),
     }
 }

@@ -1,6 +1,6 @@
 -- Functions of a value's image can't tell a wrap from what it calls.
 use Rattle.std.proofs.Common.{◌≡◌, refl, ap}
-use Rattle.js_value.specs.Image.{image, image_to_boolean, to_boolean, value_of}
+use Rattle.js_value.specs.Image.{image, image_is_primitive, image_to_boolean, is_primitive, to_boolean, value_of}
 use Rattle.js_value.specs.Same.{images_same, same}
 use Rattle.js_value.specs.declared.value.Callee.{Callee}
 use Rattle.js_value.specs.declared.value.Callee.TheVariants as callee
@@ -20,6 +20,9 @@ image-image (value.Text t) = refl
 image-image (value.Ref o) = refl
 image-image (value.Native n) = refl
 image-image (value.Wrap h c) = image-value_of c
+
+pub is_primitive-image : (v : Value) → is_primitive (image v) ≡ is_primitive v
+is_primitive-image v = ap image_is_primitive (image-image v)
 
 pub to_boolean-image : (v : Value) → to_boolean (image v) ≡ to_boolean v
 to_boolean-image v = ap image_to_boolean (image-image v)

@@ -1,1 +1,2 @@
+pub mod Callables
 pub mod Images

@@ -1,5 +1,5 @@
 -- What a wrap stands for. Rows look at a value only through functions that can't tell a wrap from its callee: functions of its image.
-use Rattle.std.specs.Prelude.{Bool, true, false, not, ◌==◌, length, pos}
+use Rattle.std.specs.Prelude.{Bool, true, false, not, ◌==◌, length, pos, IsTrue}
 use Rattle.std.specs.Ordering.{int_eq}
 use Rattle.js_value.specs.declared.number.Num.{Num}
 use Rattle.js_value.specs.declared.number.Num.TheVariants.{Whole, NaN}
@@ -42,13 +42,19 @@ image_to_boolean (value.Wrap h c) = true
 abbrev pub to_boolean : Value → Bool
 to_boolean v = image_to_boolean (image v)
 
--- neither an object nor a native function, nor a wrap of one (the types of ECMA-262 edition 5.1, 8.1 to 8.5)
+-- neither an object nor a native function (the types of ECMA-262 edition 5.1, 8.1 to 8.5), of a value that is no wrap
+abbrev pub image_is_primitive : Value → Bool
+image_is_primitive value.Undefined = true
+image_is_primitive value.Null = true
+image_is_primitive (value.Bool b) = true
+image_is_primitive (value.Num n) = true
+image_is_primitive (value.Text t) = true
+image_is_primitive (value.Ref o) = false
+image_is_primitive (value.Native n) = false
+image_is_primitive (value.Wrap h c) = false
+
+abbrev pub is_primitive : Value → Bool
+is_primitive v = image_is_primitive (image v)
+
 abbrev pub IsPrimitive : Value → Type 0
-IsPrimitive value.Undefined = Unit {0}
-IsPrimitive value.Null = Unit {0}
-IsPrimitive (value.Bool b) = Unit {0}
-IsPrimitive (value.Num n) = Unit {0}
-IsPrimitive (value.Text t) = Unit {0}
-IsPrimitive (value.Ref o) = ⊥
-IsPrimitive (value.Native n) = ⊥
-IsPrimitive (value.Wrap h c) = ⊥
+IsPrimitive v = IsTrue (is_primitive v)

@@ -1,3 +1,4 @@
+pub mod Callable
 pub mod Image
 pub mod Number
 pub mod Numeral

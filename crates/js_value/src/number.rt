@@ -2,6 +2,7 @@
 ghost use Rattle.std.specs.Prelude.{◌≡◌, Some, None, pos, if◌then◌else◌};
 ghost use Rattle.js_value.specs.Range.{is_safe, IsSafe};
 
+use mug_text::SAFE_END;
 use std::marker::Model;
 
 /// A whole number from -(2^53 - 1) to 2^53 - 1.
@@ -28,7 +29,7 @@ impl Integer {
     pub fn new(value: i128) -> Option<Integer>
         ensures { result ≡ (if is_safe value then Some value else None) }
     {
-        if value.unsigned_abs() < 1 << 53 {
+        if value.unsigned_abs() < u128::from(SAFE_END) {
             Some(Integer {
                 value: value as i64,
             })

@@ -1,5 +1,5 @@
 // Values.
-ghost use Rattle.std.specs.Prelude.{◌≡◌, ◌↔◌, IfOk, IsTrue};
+ghost use Rattle.std.specs.Prelude.{◌≡◌, IfOk};
 ghost use Rattle.js_value.specs.Image as value_image;
 ghost use Rattle.js_value.specs.Same as value_same;
 
@@ -74,7 +74,7 @@ impl Value {
 
     /// Whether the value is neither an object nor a native function, nor a wrap of one.
     pub fn is_primitive(&self) -> bool
-        ensures { IsTrue result ↔ value_image.IsPrimitive self.now }
+        ensures { result ≡ value_image.is_primitive self.now }
     {
         !matches!(self, Value::Ref(_) | Value::Native(_) | Value::Wrap(_, _))
     }
