@@ -1,0 +1,6 @@
+pub mod Keeping
+pub mod Moves
+pub mod Readings
+pub mod Simulation
+pub mod ThreeRows
+pub mod Trees

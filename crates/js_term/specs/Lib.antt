@@ -1,0 +1,11 @@
+pub mod Completions
+pub mod Contraction
+pub mod Frames
+pub mod Images
+pub mod Invariants
+pub mod Moves
+pub mod Operands
+pub mod Place
+pub mod Table
+pub mod Term
+pub mod inner

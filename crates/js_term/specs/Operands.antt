@@ -1,0 +1,117 @@
+-- The operands of a node of syntax, in the order in which they are evaluated, and the term of a tree (ECMA-262 edition 5.1, clauses 11 to 14).
+-- What a node evaluates later, such as the right side of `&&` or a loop's parts, its row has as trees. A member in the place of a callee or a target
+-- is no node of its own: its operands are those of the call, assignment, update or `delete`. The name under `typeof` is no operand either.
+-- The statements of a program, a handler, a body, and of the block of a `try` are operands of the form that runs them; a program and a body are no
+-- nodes of their own.
+use Rattle.std.specs.Prelude.{ℕ, zero, suc, ◌+◌, List, [], ◌∷◌, Bool, Option, Some, None}
+use Rattle.js_value.specs.declared.number.Num.TheVariants.{Whole}
+use Rattle.js_value.specs.declared.value.Value.{Value}
+use Rattle.js_value.specs.declared.value.Value.TheVariants as value
+use Rattle.js_tree.specs.declared.production.Production.{Production}
+use Rattle.js_tree.specs.declared.production.Production.TheVariants as production
+use Rattle.js_tree.specs.declared.production.UnaryOperator.TheVariants.{Delete, TypeOf}
+use Rattle.js_tree.specs.Trees.{Tree}
+use Rattle.js_tree.specs.Trees.Tree.{Made, Word, Missing}
+use Rattle.js_term.specs.Place.{Place}
+use Rattle.js_term.specs.Place.Place.{At}
+use Rattle.js_term.specs.Term.{Term, node, terms}
+use Rattle.js_term.specs.Term.Term.{Val}
+
+-- a literal's value (7.8)
+abbrev pub literal : Production → Tree → Option Value
+literal production.Null ts = Some value.Null
+literal (production.Bool b) ts = Some (value.Bool b)
+literal (production.Number z) ts = Some (value.Num (Whole z))
+literal production.Text (Tree.Cons (Word k) ts) = Some (value.Text k)
+literal p ts = None
+
+-- trees that are there, of a list
+abbrev pub listed : Tree → List Tree
+listed (Tree.Cons Missing ts) = listed ts
+listed (Tree.Cons t ts) = t ∷ listed ts
+listed t = []
+
+-- the values of an object literal's entries
+abbrev pub entry_values : Tree → List Tree
+entry_values (Tree.Cons (Tree.Cons k (Tree.Cons e rest)) ts) = e ∷ entry_values ts
+entry_values t = []
+
+-- the first initialiser of a `var`
+abbrev pub first_initialiser : Tree → List Tree
+first_initialiser (Tree.Cons (Tree.Cons k (Tree.Cons Missing rest)) ts) = first_initialiser ts
+first_initialiser (Tree.Cons (Tree.Cons k (Tree.Cons e rest)) ts) = e ∷ []
+first_initialiser t = []
+
+-- a target's own operands: a member's
+abbrev pub target_operands : Tree → List Tree
+target_operands (Made production.Member u v (Tree.Cons e ts)) = e ∷ []
+target_operands (Made production.Index u v (Tree.Cons e (Tree.Cons k ts))) = e ∷ k ∷ []
+target_operands t = []
+
+-- the operands of a node of a production, with these parts
+abbrev pub operands : Production → Tree → List Tree
+operands production.Array (Tree.Cons es ts) = listed es
+operands production.Object (Tree.Cons es ts) = entry_values es
+operands production.Member (Tree.Cons e ts) = e ∷ []
+operands production.Index (Tree.Cons e (Tree.Cons k ts)) = e ∷ k ∷ []
+operands production.Call (Tree.Cons (Made production.Member a b (Tree.Cons e rest)) (Tree.Cons xs ts)) = e ∷ []
+operands production.Call (Tree.Cons (Made production.Index a b (Tree.Cons e (Tree.Cons k rest))) (Tree.Cons xs ts)) = e ∷ k ∷ []
+operands production.Call (Tree.Cons f (Tree.Cons xs ts)) = f ∷ listed xs
+operands production.New (Tree.Cons f (Tree.Cons xs ts)) = f ∷ listed xs
+operands (production.Postfix o) (Tree.Cons e ts) = target_operands e
+operands (production.Prefix o) (Tree.Cons e ts) = target_operands e
+operands (production.Unary TypeOf) (Tree.Cons (Made production.Name a b rest) ts) = []
+operands (production.Unary Delete) (Tree.Cons (Made production.Member a b (Tree.Cons e rest)) ts) = e ∷ []
+operands (production.Unary Delete) (Tree.Cons (Made production.Index a b (Tree.Cons e (Tree.Cons k rest))) ts) = e ∷ k ∷ []
+operands (production.Unary o) (Tree.Cons e ts) = e ∷ []
+operands (production.Binary o) (Tree.Cons a (Tree.Cons b ts)) = a ∷ b ∷ []
+operands production.And (Tree.Cons a ts) = a ∷ []
+operands production.Or (Tree.Cons a ts) = a ∷ []
+operands production.Conditional (Tree.Cons a ts) = a ∷ []
+operands (production.Assign None) (Tree.Cons (Made production.Name u v rest) (Tree.Cons e ts)) = e ∷ []
+operands (production.Assign o) (Tree.Cons a ts) = target_operands a
+operands production.Comma (Tree.Cons a ts) = a ∷ []
+operands production.Block (Tree.Cons ss ts) = listed ss
+operands production.Var (Tree.Cons ds ts) = first_initialiser ds
+operands production.Expression (Tree.Cons e ts) = e ∷ []
+operands production.If (Tree.Cons e ts) = e ∷ []
+operands production.ForIn (Tree.Cons x (Tree.Cons e ts)) = e ∷ []
+operands production.Return (Tree.Cons Missing ts) = []
+operands production.Return (Tree.Cons e ts) = e ∷ []
+operands production.Labelled (Tree.Cons l (Tree.Cons s ts)) = s ∷ []
+operands production.Switch (Tree.Cons e ts) = e ∷ []
+operands production.Throw (Tree.Cons e ts) = e ∷ []
+operands production.Try (Tree.Cons ss ts) = listed ss
+operands production.Program (Tree.Cons ss ts) = listed ss
+operands production.Handler (Tree.Cons ss ts) = listed ss
+operands production.Body (Tree.Cons ss ts) = listed ss
+operands p ts = []
+
+-- how many free moves at most a tree is begun and finished with, and so a list
+abbrev pub weight : Tree → ℕ
+weight (Made p u v ts) = 5 + weight ts
+weight (Tree.Cons t ts) = weight t + weight ts
+weight t = 2
+
+abbrev pub total : {X : Type 0} → (X → ℕ) → List X → ℕ
+total f [] = 0
+total f (x ∷ xs) = f x + total f xs
+
+module _ {R : Type 0} (no_step : R → Bool) (row : Place → Production → Tree → R) where
+  -- a node's term: its value where it is a literal, else its row over its operands' terms
+  abbrev pub made : (Tree → Term R) → Place → Production → Tree → Option Value → Term R
+  made f a p ts (Some v) = Val v
+  made f a p ts None = node no_step (row a p ts) (terms f (operands p ts))
+
+  abbrev pub opened : (Tree → Term R) → (text : ℕ) → Tree → Term R
+  opened f x (Made p u v ts) = made f (At x u) p ts (literal p ts)
+  opened f x t = Val value.Undefined
+
+  -- the term of a tree of which so many levels are looked at
+  abbrev pub term_to : ℕ → (text : ℕ) → Tree → Term R
+  term_to zero x t = Val value.Undefined
+  term_to (suc n) x t = opened (term_to n x) x t
+
+  -- the term of a tree of a text, by the text's number; an operand stands in its tree, so that the tree's weight is levels enough
+  unfoldable pub term_of : (text : ℕ) → Tree → Term R
+  term_of x t = term_to (weight t) x t
