@@ -1,7 +1,7 @@
 """Cases for the grammar of scripts (ECMA-262 edition 5.1, in a profile), each derived by hand, with its reason.
 
 python3 tools/script_cases.py writes the standard input of the program script_answers, a text a line, and what it must print: for each
-text its answer, and behind them the trees of some texts.
+text its answer, and behind them the trees of some texts, and tokens and scopes (word_cases.py).
 
 In a text the mark ‸ stands before the token that is refused, and ⇓ before the first one that stands too deep; neither is a part
 of the text. A text without a mark is accepted. A refusal at the end stands behind the last unit. A page is a program in which no
@@ -12,6 +12,7 @@ import pathlib
 import sys
 
 from script_trees import TREES
+from word_cases import lines as word_lines
 
 PAGE, HIDDEN, HANDLER = "page", "hidden", "handler"
 CASES = []
@@ -509,6 +510,9 @@ def main():
         for text, tree in TREES:
             texts.write("tree %s\n" % spelled(text))
             answers.write("accepted %s\n" % tree)
+        for case, answer in word_lines():
+            texts.write(case + "\n")
+            answers.write(answer + "\n")
 
 
 if __name__ == "__main__":

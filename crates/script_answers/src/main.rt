@@ -2,6 +2,8 @@
 #![tactic(auto)]
 
 mod answer;
+mod listing;
+mod scopes;
 
 use std::io;
 
