@@ -1,0 +1,5 @@
+pub mod Bindings
+pub mod ChainSteps
+pub mod ElementLemmas
+pub mod Places
+pub mod Walks

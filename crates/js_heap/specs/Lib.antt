@@ -1,0 +1,11 @@
+pub mod Binding
+pub mod Chains
+pub mod Elements
+pub mod Names
+pub mod Objects
+pub mod Properties
+pub mod Puts
+pub mod Roots
+pub mod Scopes
+pub mod World
+pub mod inner

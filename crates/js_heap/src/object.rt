@@ -1,0 +1,12 @@
+// Objects.
+use crate::Class;
+use crate::table::Table;
+use js_value::ObjId;
+
+// An object: its class, its prototype and its own properties.
+#[derive(Drop)]
+pub(crate) struct Object {
+    pub(crate) class: Class,
+    pub(crate) prototype: Option<ObjId>,
+    pub(crate) properties: Table,
+}
