@@ -1,4 +1,6 @@
 // A session of a head and one turn, over a disk and an output in memory.
+ghost use Rattle.input_log.specs.Items.{IsItem};
+
 use crate::{CaptureFault, Recorder};
 use input_log::LogItem;
 use mug_disk::MemDisk;
@@ -18,15 +20,13 @@ fn record(
     head: &LogItem,
     disk: &mut MemDisk,
     out: &mut MemSink,
-) -> Result<(u64, u64), CaptureFault> {
+) -> Result<(u64, u64), CaptureFault>
+    requires { IsItem head.now }
+{
     let mut recorder = Recorder::start(alloc, head, disk, out)?;
-    for item in [
-        LogItem::Load { t: 50 },
-        LogItem::Now { v: 60 },
-        LogItem::Rand { w: 7 },
-    ] {
-        recorder.log(disk, out, &item)?;
-    }
+    recorder.log(disk, out, &LogItem::Load { t: 50 })?;
+    recorder.log(disk, out, &LogItem::Now { v: 60 })?;
+    recorder.log(disk, out, &LogItem::Rand { w: 7 })?;
     recorder.flush(disk, out)?;
     Ok((recorder.frames(), recorder.inputs()))
 }
