@@ -1,1 +1,4 @@
+pub mod Logging
 pub mod Records
+pub mod Recordings
+pub mod Runs

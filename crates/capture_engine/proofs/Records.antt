@@ -13,16 +13,18 @@ use Rattle.input_log.specs.declared.item.LogItem.{LogItem}
 use Rattle.input_log.specs.declared.item.LogItem.TheVariants.{Head, Load, Now, Rand}
 use Rattle.log_frames.specs.Frames.{frame, opened}
 use Rattle.session_store.specs.Session.{items_of, payload_of}
-use Rattle.session_store.specs.Recovery.{place_behind}
+use Rattle.session_store.specs.Recovery.{place_after}
 use Rattle.session_store.specs.Keeping.{StoreState, file, session}
 use Rattle.session_store.proofs.Frames.{opened-push}
-use Rattle.capture_engine.specs.Grouping.{ack_line, acks, acks_from, ends_before, grouped, text_of}
+use Rattle.capture_engine.specs.Acks.{ack_line, acks, acks_from, text_of_lines}
+use Rattle.capture_engine.specs.inner.Grouping.{ends_before, frames_after, grouped, kept_before, open_after}
+use Rattle.capture_engine.specs.inner.Steps.{StopsAt}
 use Rattle.session_store.specs.declared.keeper.Ack.{Ack}
 use Rattle.session_store.specs.declared.keeper.StoreFault.{StoreFault}
 use Rattle.session_store.specs.declared.keeper.StoreFault.TheVariants as store_fault
 use Rattle.session_store.specs.declared.keeper.TheConstants.{MOMENT_END, SESSION_LIMIT}
 use Rattle.capture_engine.specs.Outside.{IsEarly, Shown, seen}
-use Rattle.capture_engine.specs.Recording.{Halted, Holds, Recorded, RecorderState, Starved, StopsAt, Unchanged, Unmade, closed, frames_after, inputs_in, kept_before, open_after}
+use Rattle.capture_engine.specs.Recording.{Committed, Halted, Holds, RecorderState, Starved, Unchanged, Unmade, ended, inputs_in}
 use Rattle.capture_engine.specs.declared.recorder.CaptureFault.{CaptureFault}
 use Rattle.capture_engine.specs.declared.recorder.CaptureFault.TheVariants.{Store, WriteFault, NoMemory}
 
@@ -39,8 +41,8 @@ inputs_push frames group = ap (count_by is_input) (items_push frames group) ∙ 
 
 -- ---- lines
 
-pub text_push : (lines : List (List ℕ)) (line : List ℕ) → text_of (lines ++ line ∷ []) ≡ text_of lines ++ line
-text_push lines line = flat_map-append (λ (l : List ℕ). l) lines (line ∷ []) ∙ ap (λ (l : List ℕ). text_of lines ++ l) (append-nil line)
+pub text_push : (lines : List (List ℕ)) (line : List ℕ) → text_of_lines (lines ++ line ∷ []) ≡ text_of_lines lines ++ line
+text_push lines line = flat_map-append (λ (l : List ℕ). l) lines (line ∷ []) ∙ ap (λ (l : List ℕ). text_of_lines lines ++ l) (append-nil line)
 
 pub acks_append : (xs ys : List (List LogItem)) (n m : ℕ) → acks_from n m (xs ++ ys) ≡ acks_from n m xs ++ acks_from (n + inputs_in xs) (m + 4 * length xs) ys
 acks_append [] ys n m = λ i. acks_from (same n i) (same2 m i) ys
@@ -65,7 +67,7 @@ acks_push frames group =
 
 -- ---- places
 
-pub place_push : (frames : List (List LogItem)) (group : List LogItem) → place_behind (frames ++ group ∷ []) ≡ place_behind frames + 5 + length (payload_of group)
+pub place_push : (frames : List (List LogItem)) (group : List LogItem) → place_after (frames ++ group ∷ []) ≡ place_after frames + 5 + length (payload_of group)
 place_push frames group =
     let ps = map payload_of frames in
     let p = payload_of group in
@@ -78,7 +80,7 @@ drop_nil zero = refl
 drop_nil (suc n) = refl
 
 -- the file with one frame more
-pub file_push : (frames : List (List LogItem)) (group : List LogItem) (place size : ℕ) (start mid new : Option (List ℕ)) → mid ≡ option_map (λ _. file frames) start → place ≡ place_behind frames
+pub file_push : (frames : List (List LogItem)) (group : List LogItem) (place size : ℕ) (start mid new : Option (List ℕ)) → mid ≡ option_map (λ _. file frames) start → place ≡ place_after frames
     → ((gate : ℕ) (rest : List ℕ) → mid ≡ Some (session frames gate rest) → new ≡ Some (session (frames ++ group ∷ []) 0 (drop size rest)))
     → (mid ≡ None → new ≡ None) → new ≡ option_map (λ _. file (frames ++ group ∷ [])) start
 file_push frames group place size None mid new is at told untold = untold is
@@ -106,9 +108,9 @@ pub some_open : (current : List LogItem) → 0 < length (payload_of current) →
 some_open [] some is = omega arith
 some_open (item ∷ items) some is = cc
 
-pub closed_some : (frames : List (List LogItem)) (current : List LogItem) → current ≢ [] → closed frames current ≡ frames ++ current ∷ []
-closed_some frames [] some = absurd (some refl)
-closed_some frames (item ∷ items) some = refl
+pub ended_some : (frames : List (List LogItem)) (current : List LogItem) → current ≢ [] → ended frames current ≡ frames ++ current ∷ []
+ended_some frames [] some = absurd (some refl)
+ended_some frames (item ∷ items) some = refl
 
 -- ---- a commit
 
@@ -116,7 +118,7 @@ pub rose_later : (a b c : ℕ) → a ≤ b → Rose b c → Rose a c
 rose_later a b c le (inl grew) = inl (omega arith)
 rose_later a b c le (inr full) = inr full
 
-pub frames_small : (frames : List (List LogItem)) → 9 + 5 * length frames ≤ place_behind frames
+pub frames_small : (frames : List (List LogItem)) → 9 + 5 * length frames ≤ place_after frames
 frames_small [] = omega arith
 frames_small (f ∷ frames) =
     let p = payload_of f in
@@ -130,11 +132,11 @@ abbrev pub refused : StoreFault → Result Ack StoreFault
 refused fault = Err fault
 
 -- the same of the recorder as it is kept
-pub of_view : {start now : Shown} {frames : List (List LogItem)} {current : List LogItem} {r r' : RecorderState} → r ≡ r' → Recorded start now frames current r' → Recorded start now frames current r
-of_view {start} {now} {frames} {current} same before = subst (λ (r : RecorderState). Recorded start now frames current r) (sym same) before
+pub of_view : {start now : Shown} {frames : List (List LogItem)} {current : List LogItem} {r r' : RecorderState} → r ≡ r' → Committed start now frames current r' → Committed start now frames current r
+of_view {start} {now} {frames} {current} same before = subst (λ (r : RecorderState). Committed start now frames current r) (sym same) before
 
 -- `payload` is committed by the store, which then is `store`
-module _ {start now : Shown} {frames : List (List LogItem)} {current : List LogItem} {r : RecorderState} (so_far : Recorded start now frames current r) (payload : List ℕ) (is : payload ≡ r.payload) (some : 0 < length payload) where
+module _ {start now : Shown} {frames : List (List LogItem)} {current : List LogItem} {r : RecorderState} (so_far : Committed start now frames current r) (payload : List ℕ) (is : payload ≡ r.payload) (some : 0 < length payload) where
   payload_is : payload ≡ payload_of current
   payload_is = is ∙ so_far.payload_is
 
@@ -144,7 +146,7 @@ module _ {start now : Shown} {frames : List (List LogItem)} {current : List LogI
   early : IsEarly start.moment → now.moment + 4 < MOMENT_END
   early at = let time = so_far.holds.time at in let small = frames_small frames in let fits = so_far.holds.fits in omega arith
 
-  next_fits : r.store.place + 5 + length payload ≤ SESSION_LIMIT → place_behind (frames ++ current ∷ []) ≤ SESSION_LIMIT
+  next_fits : r.store.place + 5 + length payload ≤ SESSION_LIMIT → place_after (frames ++ current ∷ []) ≤ SESSION_LIMIT
   next_fits fit = omega (arith, fit, so_far.place, place_push frames current, ap length payload_is)
 
   -- the frame fits, since the store isn't full
@@ -187,14 +189,14 @@ module _ {start now : Shown} {frames : List (List LogItem)} {current : List LogI
     }
 
   file_next : (held : Option (List ℕ))
-      → ((frames : List (List LogItem)) (items : List LogItem) (gate : ℕ) (rest : List ℕ) → r.store.place ≡ place_behind frames → payload ≡ payload_of items → now.held ≡ Some (session frames gate rest)
+      → ((frames : List (List LogItem)) (items : List LogItem) (gate : ℕ) (rest : List ℕ) → r.store.place ≡ place_after frames → payload ≡ payload_of items → now.held ≡ Some (session frames gate rest)
       → held ≡ Some (session (frames ++ items ∷ []) 0 (drop (5 + length payload) rest)))
       → (now.held ≡ None → held ≡ None) → held ≡ option_map (λ _. file (frames ++ current ∷ [])) start.held
   file_next held told untold =
       file_push frames current r.store.place (5 + length payload) start.held now.held held so_far.holds.file_is so_far.place (λ gate rest is. told frames current gate rest so_far.place payload_is is) untold
 
   module _ (held : Option (List ℕ)) (moment disk inputs at : ℕ)
-      (told : (frames : List (List LogItem)) (items : List LogItem) (gate : ℕ) (rest : List ℕ) → r.store.place ≡ place_behind frames → payload ≡ payload_of items → now.held ≡ Some (session frames gate rest)
+      (told : (frames : List (List LogItem)) (items : List LogItem) (gate : ℕ) (rest : List ℕ) → r.store.place ≡ place_after frames → payload ≡ payload_of items → now.held ≡ Some (session frames gate rest)
       → held ≡ Some (session (frames ++ items ∷ []) 0 (drop (5 + length payload) rest)))
       (untold : now.held ≡ None → held ≡ None) (time : now.moment + 4 < MOMENT_END → moment ≡ now.moment + 4) (later : now.disk ≤ disk)
       (inputs_are : inputs ≡ r.store.inputs + r.inputs) (at_is : at ≡ r.store.moments + 4) (fit : r.store.place + 5 + length payload ≤ SESSION_LIMIT) where
@@ -210,22 +212,22 @@ module _ {start now : Shown} {frames : List (List LogItem)} {current : List LogI
       file_is = file_next held told untold;
       fits = next_fits fit;
       less =
-          subst (λ (line : List ℕ). TookLess line (behind (text_of (acks frames)) start.taken) taken) (λ i. ack_line (next_inputs i) (next_at i))
+          subst (λ (line : List ℕ). TookLess line (behind (text_of_lines (acks frames)) start.taken) taken) (λ i. ack_line (next_inputs i) (next_at i))
           (subst (λ (o : Option (List ℕ)). TookLess (ack_line inputs at) o taken) so_far.holds.printed less);
       time = λ early_at. let were = so_far.holds.time early_at in let since = time (early early_at) in omega arith;
     }
 
     pub went_on : (store : StoreState) (left : List ℕ) (taken : Option (List ℕ)) (out : ℕ) → left ≡ [] → store.place ≡ r.store.place + 5 + length payload → store.frames ≡ r.store.frames + 1 → store.inputs ≡ inputs → store.moments ≡ at
         → store.stopped ≡ false → now.out ≤ out → taken ≡ behind (ack_line inputs at) now.taken
-        → Recorded start (seen held moment taken disk out) (closed frames current) [] (record { store = store; payload = left; inputs = 0 })
+        → Committed start (seen held moment taken disk out) (ended frames current) [] (record { store = store; payload = left; inputs = 0 })
     went_on store left taken out empty place count store_inputs store_moments running out_later took =
         let size : length (frames ++ current ∷ []) ≡ length frames + 1 = length-append frames (current ∷ []) in
-        subst (λ (all : List (List LogItem)). Recorded start (seen held moment taken disk out) all [] (record { store = store; payload = left; inputs = 0 })) (sym (closed_some frames current has_some)) (record {
+        subst (λ (all : List (List LogItem)). Committed start (seen held moment taken disk out) all [] (record { store = store; payload = left; inputs = 0 })) (sym (ended_some frames current has_some)) (record {
           holds = record {
             file_is = file_next held told untold;
             fits = next_fits fit;
-            printed = took ∙ ap (behind (ack_line inputs at)) so_far.holds.printed ∙ behind_behind (text_of (acks frames)) (ack_line inputs at) start.taken
-                ∙ ap (λ (l : List ℕ). behind l start.taken) (sym (ap text_of (acks_push frames current) ∙ text_push (acks frames) _ ∙ ap (λ (l : List ℕ). text_of (acks frames) ++ l) (sym (λ i. ack_line (next_inputs i) (next_at i)))));
+            printed = took ∙ ap (behind (ack_line inputs at)) so_far.holds.printed ∙ behind_behind (text_of_lines (acks frames)) (ack_line inputs at) start.taken
+                ∙ ap (λ (l : List ℕ). behind l start.taken) (sym (ap text_of_lines (acks_push frames current) ∙ text_push (acks frames) _ ∙ ap (λ (l : List ℕ). text_of_lines (acks frames) ++ l) (sym (λ i. ack_line (next_inputs i) (next_at i)))));
             time = λ early_at. let were = so_far.holds.time early_at in let since = time (early early_at) in omega (arith, size);
           };
           place = omega (arith, place, so_far.place, place_push frames current, ap length payload_is);
@@ -247,16 +249,16 @@ ends_some (first ∷ others) item ends none = cc
 
 -- the open frame goes on
 pub stays : {start now : Shown} {frames : List (List LogItem)} {current : List LogItem} {r : RecorderState} (item : LogItem) → ends_before current item ≡ false
-    → Recorded start now frames current r → Recorded start now (frames_after frames current item) (kept_before current item) r
+    → Committed start now frames current r → Committed start now (frames_after frames current item) (kept_before current item) r
 stays {start} {now} {frames} {current} {r} item on before =
-    subst (λ (b : Bool). Recorded start now (if b then frames ++ current ∷ [] else frames) (if b then [] else current) r) (sym on) before
+    subst (λ (b : Bool). Committed start now (if b then frames ++ current ∷ [] else frames) (if b then [] else current) r) (sym on) before
 
 -- the open frame ended
 pub turns_over : {start now : Shown} {r : RecorderState} (frames : List (List LogItem)) (current : List LogItem) (item : LogItem) → ends_before current item ≡ true
-    → Recorded start now (closed frames current) [] r → Recorded start now (frames_after frames current item) (kept_before current item) r
+    → Committed start now (ended frames current) [] r → Committed start now (frames_after frames current item) (kept_before current item) r
 turns_over {start} {now} {r} frames current item ends before =
-    subst (λ (b : Bool). Recorded start now (if b then frames ++ current ∷ [] else frames) (if b then [] else current) r) (sym ends)
-    (subst (λ (all : List (List LogItem)). Recorded start now all [] r) (closed_some frames current (ends_some current item ends)) before)
+    subst (λ (b : Bool). Committed start now (if b then frames ++ current ∷ [] else frames) (if b then [] else current) r) (sym ends)
+    (subst (λ (all : List (List LogItem)). Committed start now all [] r) (ended_some frames current (ends_some current item ends)) before)
 
 -- the commit of this frame halted the recording
 pub halted_at : (fault : CaptureFault) (start now : Shown) (frames others all : List (List LogItem)) (group : List LogItem) → all ≡ frames ++ group ∷ others → StopsAt fault start now frames group → Halted fault start now all
@@ -267,13 +269,6 @@ halted_at (Store store_fault.NotEmpty) start now frames others all group is stop
 halted_at (Store store_fault.Stopped) start now frames others all group is stops = stops
 halted_at WriteFault start now frames others all group is stops = record { frames = frames; group = group; others = others; is = is; stops = stops }
 halted_at NoMemory start now frames others all group is stops = record { frames = frames; others = group ∷ others; is = is; holds = stops }
-
--- the commit of the open frame before an item did
-pub halted_before : (halt : CaptureFault) (start now : Shown) (frames : List (List LogItem)) (current items : List LogItem) (item : LogItem) → ends_before current item ≡ true → StopsAt halt start now frames current
-    → Halted halt start now (frames ++ grouped current (item ∷ items))
-halted_before halt start now frames current items item ends stops =
-    halted_at halt start now frames (grouped (item ∷ []) items) _ current
-    (ap (λ (b : Bool). frames ++ (if b then current ∷ grouped (item ∷ []) items else grouped (current ++ item ∷ []) items)) ends) stops
 
 -- the frames of the items from this one on
 pub group_step : (frames : List (List LogItem)) (current items : List LogItem) (item : LogItem)
@@ -286,7 +281,7 @@ group_step frames current items item = by_test (ends_before current item)
     by_test false = refl
 
 -- memory was out
-pub starved : {start now : Shown} {frames : List (List LogItem)} {current : List LogItem} {r : RecorderState} → Recorded start now frames current r → (all others : List (List LogItem)) → all ≡ frames ++ others
+pub starved : {start now : Shown} {frames : List (List LogItem)} {current : List LogItem} {r : RecorderState} → Committed start now frames current r → (all others : List (List LogItem)) → all ≡ frames ++ others
     → Starved start now all
 starved {start} {now} {frames} so_far all others is = record { frames = frames; others = others; is = is; holds = so_far.holds }
 
@@ -303,7 +298,7 @@ made_empty start now held taken time = record {
 }
 
 -- the frames that are closed at the end are all
-pub grouped_end : (frames : List (List LogItem)) (current : List LogItem) → frames ++ grouped current [] ≡ closed frames current
+pub grouped_end : (frames : List (List LogItem)) (current : List LogItem) → frames ++ grouped current [] ≡ ended frames current
 grouped_end frames [] = append-nil frames
 grouped_end frames (item ∷ items) = refl
 

@@ -1,3 +1,5 @@
 pub mod Outside
-pub mod Grouping
+pub mod Frames
+pub mod Acks
 pub mod Recording
+pub mod inner

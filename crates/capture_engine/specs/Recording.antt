@@ -1,16 +1,18 @@
 -- What a recording has done so far, and how it stops.
-use Rattle.std.specs.Prelude.{◌≡◌, ◌≢◌, ◌⊎◌, ℕ, ◌+◌, ◌*◌, ◌<◌, ◌≤◌, false, List, [], ◌∷◌, ◌++◌, length, count_by, Option, IfSome, option_map, if◌then◌else◌}
+use Rattle.std.specs.Prelude.{◌≡◌, ◌⊎◌, ℕ, ◌+◌, ◌*◌, ◌<◌, ◌≤◌, false, List, [], ◌∷◌, ◌++◌, length, count_by, IfSome, option_map}
 use Rattle.mug_outside.specs.Told.{behind, TookLess}
 use Rattle.mug_outside.specs.Cause.{Rose}
 use Rattle.input_log.specs.Kinds.{is_input}
 use Rattle.input_log.specs.declared.item.LogItem.{LogItem}
 use Rattle.session_store.specs.Session.{items_of, payload_of}
-use Rattle.session_store.specs.Recovery.{place_behind}
+use Rattle.session_store.specs.Recovery.{place_after}
 use Rattle.session_store.specs.Keeping.{StoreState, file}
 use Rattle.session_store.specs.declared.keeper.TheConstants.{SESSION_LIMIT}
 use Rattle.session_store.specs.declared.keeper.StoreFault.TheVariants as store_fault
-use Rattle.capture_engine.specs.Grouping.{ack_line, acks, ends_before, grouped, text_of}
+use Rattle.capture_engine.specs.Acks.{ack_line, acks, text_of_lines}
+use Rattle.capture_engine.specs.Frames.{AreFrames}
 use Rattle.capture_engine.specs.Outside.{IsEarly, Shown}
+use Rattle.capture_engine.specs.inner.Grouping.{GoesOn}
 use Rattle.capture_engine.specs.declared.recorder.CaptureFault.{CaptureFault}
 use Rattle.capture_engine.specs.declared.recorder.CaptureFault.TheVariants.{Store, WriteFault, NoMemory}
 
@@ -24,21 +26,17 @@ pub record RecorderState : Type 0 where
 abbrev pub inputs_in : List (List LogItem) → ℕ
 inputs_in frames = count_by is_input (items_of frames)
 
--- the place of a store that isn't stopped is within the file
-abbrev pub IsInside : StoreState → Option (List ℕ) → Type 0
-IsInside store held = store.stopped ≡ false → IfSome held (λ bytes. store.place ≤ length bytes)
-
 -- the disk holds the session file of these frames, and after `start` the output took their lines
 pub record Holds (start now : Shown) (frames : List (List LogItem)) : Type 0 where
   pub file_is : now.held ≡ option_map (λ _. file frames) start.held
-  pub fits : place_behind frames ≤ SESSION_LIMIT
-  pub printed : now.taken ≡ behind (text_of (acks frames)) start.taken
+  pub fits : place_after frames ≤ SESSION_LIMIT
+  pub printed : now.taken ≡ behind (text_of_lines (acks frames)) start.taken
   pub time : IsEarly start.moment → now.moment ≡ start.moment + (2 + 4 * length frames)
 
 -- since `start`, a session was created, these frames committed and said, and these items put into the open one
-pub record Recorded (start now : Shown) (frames : List (List LogItem)) (current : List LogItem) (r : RecorderState) : Type 0 where
+pub record Committed (start now : Shown) (frames : List (List LogItem)) (current : List LogItem) (r : RecorderState) : Type 0 where
   pub holds : Holds start now frames
-  pub place : r.store.place ≡ place_behind frames
+  pub place : r.store.place ≡ place_after frames
   pub frames_are : r.store.frames ≡ length frames
   pub inputs_are : r.store.inputs ≡ inputs_in frames
   pub moments_are : r.store.moments ≡ 2 + 4 * length frames
@@ -48,33 +46,33 @@ pub record Recorded (start now : Shown) (frames : List (List LogItem)) (current 
   pub disk_later : start.disk ≤ now.disk
   pub out_later : start.out ≤ now.out
 
--- these frames, and the open one where it has items
-abbrev pub closed : List (List LogItem) → List LogItem → List (List LogItem)
-closed frames [] = frames
-closed frames (first ∷ others) = frames ++ (first ∷ others) ∷ []
+-- these turns, or frames, and the last one where it has items
+abbrev pub ended : List (List LogItem) → List LogItem → List (List LogItem)
+ended lists [] = lists
+ended lists (first ∷ others) = lists ++ (first ∷ others) ∷ []
 
--- the frames after an item: the open one is among them where it ends before the item
-abbrev pub frames_after : List (List LogItem) → List LogItem → LogItem → List (List LogItem)
-frames_after frames current item = if ends_before current item then frames ++ current ∷ [] else frames
+-- since `start` a session was created and its head logged, these turns to their ends, and of the turn that runs these items:
+-- the frames that are committed and said, and the open one, are the frames of these
+pub record Recorded (start now : Shown) (head : LogItem) (turns : List (List LogItem)) (turn : List LogItem) (r : RecorderState) : Type 0 where
+  pub frames : List (List LogItem)
+  pub current : List LogItem
+  pub are_frames : AreFrames head (turns ++ turn ∷ []) (ended frames current)
+  pub done : Committed start now frames current r
+  pub goes_on : GoesOn head turns turn frames current
+  pub over : turn ≡ [] → current ≡ []
 
--- the items that stay in the open frame before an item is put into it
-abbrev pub kept_before : List LogItem → LogItem → List LogItem
-kept_before current item = if ends_before current item then [] else current
-
--- the items of the frame that is open after an item
-abbrev pub open_after : List LogItem → LogItem → List LogItem
-open_after current item = kept_before current item ++ item ∷ []
+-- ---- how it stops
 
 -- the frame after these would pass the limit
 pub record IsFullAt (start now : Shown) (frames : List (List LogItem)) (group : List LogItem) : Type 0 where
   pub holds : Holds start now frames
-  pub passes : SESSION_LIMIT < place_behind frames + 5 + length (payload_of group)
+  pub passes : SESSION_LIMIT < place_after frames + 5 + length (payload_of group)
 
 -- a call of the disk failed in the commit of this frame, which fits: its line is not written, and those before it are
 pub record IsFaultyAt (start now : Shown) (frames : List (List LogItem)) (group : List LogItem) : Type 0 where
   pub rose : Rose start.disk now.disk
-  pub fits : place_behind (frames ++ group ∷ []) ≤ SESSION_LIMIT
-  pub printed : now.taken ≡ behind (text_of (acks frames)) start.taken
+  pub fits : place_after (frames ++ group ∷ []) ≤ SESSION_LIMIT
+  pub printed : now.taken ≡ behind (text_of_lines (acks frames)) start.taken
   pub after : IsEarly start.moment → start.moment + (2 + 4 * length frames) < now.moment
   pub before : IsEarly start.moment → now.moment ≤ start.moment + (2 + 4 * length frames) + 4
 
@@ -82,18 +80,10 @@ pub record IsFaultyAt (start now : Shown) (frames : List (List LogItem)) (group 
 pub record IsUnsaidAt (start now : Shown) (frames : List (List LogItem)) (group : List LogItem) : Type 0 where
   pub rose : Rose start.out now.out
   pub file_is : now.held ≡ option_map (λ _. file (frames ++ group ∷ [])) start.held
-  pub fits : place_behind (frames ++ group ∷ []) ≤ SESSION_LIMIT
-  pub less : TookLess (ack_line (inputs_in (frames ++ group ∷ [])) (2 + 4 * length frames + 4)) (behind (text_of (acks frames)) start.taken) now.taken
+  pub fits : place_after (frames ++ group ∷ []) ≤ SESSION_LIMIT
+  pub less : TookLess (ack_line (inputs_in (frames ++ group ∷ [])) (2 + 4 * length frames + 4))
+      (behind (text_of_lines (acks frames)) start.taken) now.taken
   pub time : IsEarly start.moment → now.moment ≡ start.moment + (2 + 4 * length frames + 4)
-
--- by the fault: what the commit of this frame after those came to; a store that was made and didn't fail is neither stopped nor in need of an empty disk
-abbrev pub StopsAt : CaptureFault → Shown → Shown → List (List LogItem) → List LogItem → Type 0
-StopsAt (Store store_fault.Full) start now frames group = IsFullAt start now frames group
-StopsAt (Store store_fault.DiskFault) start now frames group = IsFaultyAt start now frames group
-StopsAt (Store store_fault.NoMemory) start now frames group = Holds start now frames
-StopsAt WriteFault start now frames group = IsUnsaidAt start now frames group
-StopsAt NoMemory start now frames group = Holds start now frames
-StopsAt fault start now frames group = ⊥
 
 -- the recording of these frames stopped at one of them
 pub record Stopped (At : List (List LogItem) → List LogItem → Type 0) (all : List (List LogItem)) : Type 0 where
@@ -122,9 +112,11 @@ Halted fault start now all = ⊥
 -- by the fault: why no session was made; nothing was said then
 abbrev pub Unmade : CaptureFault → Shown → Shown → Type 0
 Unmade (Store store_fault.NotEmpty) start now =
-    IfSome start.held (λ bytes. 0 < length bytes) × (now.held ≡ start.held) × (now.moment ≡ start.moment) × (now.taken ≡ start.taken)
+    IfSome start.held (λ bytes. 0 < length bytes)
+    × (now.held ≡ start.held) × (now.moment ≡ start.moment) × (now.taken ≡ start.taken)
 Unmade (Store store_fault.DiskFault) start now =
-    Rose start.disk now.disk × (now.taken ≡ start.taken) × (IsEarly start.moment → (start.moment ≤ now.moment) × (now.moment ≤ start.moment + 2))
+    Rose start.disk now.disk × (now.taken ≡ start.taken)
+    × (IsEarly start.moment → (start.moment ≤ now.moment) × (now.moment ≤ start.moment + 2))
 Unmade NoMemory start now = Holds start now []
 Unmade fault start now = ⊥
 
@@ -138,43 +130,38 @@ pub record Unchanged (start now : Shown) : Type 0 where
 
 -- ---- what the calls of a recorder do, which is `r` before the call and `r'` after it
 
--- the item is put into the open frame
-abbrev pub Puts : LogItem → RecorderState → RecorderState → Type 0
-Puts item r r' =
-    (start now : Shown) (frames : List (List LogItem)) (current : List LogItem) → Recorded start now frames current r → Recorded start now frames (current ++ item ∷ []) r'
-
--- the open frame, where it has items, is committed and said
-abbrev pub Commits : Shown → Shown → RecorderState → RecorderState → Type 0
-Commits now now' r r' =
-    (start : Shown) (frames : List (List LogItem)) (current : List LogItem) → Recorded start now frames current r → Recorded start now' (closed frames current) [] r'
-
--- its commit came to this fault
-abbrev pub CommitStops : CaptureFault → Shown → Shown → RecorderState → Type 0
-CommitStops fault now now' r =
-    (start : Shown) (frames : List (List LogItem)) (current : List LogItem) → Recorded start now frames current r → (current ≢ []) × StopsAt fault start now' frames current
-
--- the open frame is committed where it ends before the item
-abbrev pub MakesRoom : LogItem → Shown → Shown → RecorderState → RecorderState → Type 0
-MakesRoom item now now' r r' =
-    (start : Shown) (frames : List (List LogItem)) (current : List LogItem) → Recorded start now frames current r
-    → Recorded start now' (frames_after frames current item) (kept_before current item) r'
-
--- the item is logged: the open frame is committed where it ends before the item, and the item is put into the open one
-abbrev pub Logs : LogItem → Shown → Shown → RecorderState → RecorderState → Type 0
-Logs item now now' r r' =
-    (start : Shown) (frames : List (List LogItem)) (current : List LogItem) → Recorded start now frames current r
-    → Recorded start now' (frames_after frames current item) (open_after current item) r'
-
--- the recording of this item, and of whatever follows it, was halted
-abbrev pub LogHalts : LogItem → CaptureFault → Shown → Shown → RecorderState → Type 0
-LogHalts item fault now now' r =
-    (start : Shown) (frames : List (List LogItem)) (current items : List LogItem) → Recorded start now frames current r → Halted fault start now' (frames ++ grouped current (item ∷ items))
-
 -- a session was created, and its head is committed and said
 abbrev pub Starts : LogItem → Shown → Shown → RecorderState → Type 0
-Starts head now now' r = (start : Shown) → Unchanged start now → Recorded start now' ((head ∷ []) ∷ []) [] r
+Starts head now now' r = (start : Shown) → Unchanged start now → Recorded start now' head [] [] r
 
--- it was not, or the recording of its frames was halted at the head's
+-- it was not, or its recording was halted at the head, whatever would have come after it
 abbrev pub StartHalts : LogItem → CaptureFault → Shown → Shown → Type 0
 StartHalts head fault now now' =
-    (start : Shown) (others : List (List LogItem)) → Unchanged start now → Unmade fault start now' ⊎ Halted fault start now' ((head ∷ []) ∷ others)
+    (start : Shown) (turns all : List (List LogItem)) → Unchanged start now → AreFrames head turns all
+    → Unmade fault start now' ⊎ Halted fault start now' all
+
+-- the item is logged in the turn that runs
+abbrev pub Logs : LogItem → Shown → Shown → RecorderState → RecorderState → Type 0
+Logs item now now' r r' =
+    (start : Shown) (head : LogItem) (turns : List (List LogItem)) (turn : List LogItem)
+    → Recorded start now head turns turn r → Recorded start now' head turns (turn ++ item ∷ []) r'
+
+-- the recording was halted at this item, whatever would have come after it
+abbrev pub LogHalts : LogItem → CaptureFault → Shown → Shown → RecorderState → Type 0
+LogHalts item fault now now' r =
+    (start : Shown) (head : LogItem) (turns : List (List LogItem)) (turn more : List LogItem) (others all : List (List LogItem))
+    → Recorded start now head turns turn r → AreFrames head (turns ++ (turn ++ item ∷ more) ∷ others) all
+    → Halted fault start now' all
+
+-- the turn that runs is over
+abbrev pub EndsTurn : Shown → Shown → RecorderState → RecorderState → Type 0
+EndsTurn now now' r r' =
+    (start : Shown) (head : LogItem) (turns : List (List LogItem)) (turn : List LogItem)
+    → Recorded start now head turns turn r → Recorded start now' head (ended turns turn) [] r'
+
+-- the recording was halted at its end, whatever turns would have come after it
+abbrev pub EndHalts : CaptureFault → Shown → Shown → RecorderState → Type 0
+EndHalts fault now now' r =
+    (start : Shown) (head : LogItem) (turns : List (List LogItem)) (turn : List LogItem) (others all : List (List LogItem))
+    → Recorded start now head turns turn r → AreFrames head (ended turns turn ++ others) all
+    → Halted fault start now' all

@@ -1,10 +1,10 @@
 //! The pushing side of a recording: items go into frames, frames to the disk, and a line is written for each.
 #![tactic(auto)]
 
+mod laws;
 mod line;
 mod recorder;
-#[cfg(test)]
-mod tests;
 
-pub use line::Line;
-pub use recorder::{CaptureFault, PAYLOAD_LIMIT, Recorder};
+pub use laws::frames_are_one;
+pub use line::{LINE_LIMIT, Line};
+pub use recorder::{CaptureFault, EARLY_MOMENT, PAYLOAD_LIMIT, Recorder};

@@ -7,21 +7,25 @@ use itoa::Buffer;
 use mug_outside::{Sink, WriteFault, write_whole};
 use std::marker::Model;
 
-const CAPACITY: usize = 512;
+/// The most bytes of a line.
+pub const LINE_LIMIT: usize = 512;
 
-/// A line of at most `CAPACITY` bytes.
+/// A line of at most `LINE_LIMIT` bytes.
 #[derive(Drop)]
 pub struct Line {
-    bytes: [u8; CAPACITY],
+    bytes: [u8; LINE_LIMIT],
     len: usize,
 }
 
 impl Model for Line {
+    ghost use Rattle.std.specs.Prelude.{ℕ, ◌≤◌, List, take};
+    ghost use Rattle.capture_engine.specs.declared.line.TheConstants.{LINE_LIMIT};
+
     ghost Value = { List ℕ };
 
     ghost view = { λ l. take l.len l.bytes };
 
-    ghost invariant = { λ l. l.len ≤ 512 };
+    ghost invariant = { λ l. l.len ≤ LINE_LIMIT };
 }
 
 impl Line {
@@ -29,13 +33,13 @@ impl Line {
         ensures { result ≡ [] }
     {
         Line {
-            bytes: [0; CAPACITY],
+            bytes: [0; LINE_LIMIT],
             len: 0,
         }
     }
 
     pub fn push(&mut self, text: &[u8])
-        requires { length self.old + length text.now ≤ 512 }
+        requires { length self.old + length text.now ≤ LINE_LIMIT }
         ensures { self.new ≡ self.old ++ text.now }
     {
         let end = self.len + text.len();
@@ -45,7 +49,7 @@ impl Line {
 
     /// The number in decimal digits, of which there are at most 40.
     pub fn push_number(&mut self, n: u64)
-        requires { length self.old + 40 ≤ 512 }
+        requires { length self.old + 40 ≤ LINE_LIMIT }
         ensures grown { self.new ≡ self.old ++ decimal n }
         ensures short { length self.new ≤ length self.old + 40 }
     {

@@ -2,10 +2,13 @@
 ghost use Rattle.std.specs.Prelude.{◌≡◌, ◌≤◌, ℕ, List, [], Option, IfErr, IfOk, OnOk};
 ghost use Rattle.input_log.specs.Items.{IsItem};
 ghost use Rattle.input_log.specs.declared.item.LogItem.{LogItem};
+ghost use Rattle.session_store.specs.Keeping.{IsInside, IsSame};
 ghost use Rattle.session_store.specs.Session.{payload_of};
-ghost use Rattle.capture_engine.specs.Grouping.{ack_line, ends_before};
+ghost use Rattle.capture_engine.specs.Acks.{ack_line};
 ghost use Rattle.capture_engine.specs.Outside.{seen, shown};
-ghost use Rattle.capture_engine.specs.Recording.{CommitStops, Commits, IsInside, LogHalts, Logs, MakesRoom, Puts, Recorded, StartHalts, Starts, Unmade};
+ghost use Rattle.capture_engine.specs.Recording.{Committed, EndHalts, EndsTurn, LogHalts, Logs, StartHalts, Starts, Unmade};
+ghost use Rattle.capture_engine.specs.inner.Grouping.{ends_before};
+ghost use Rattle.capture_engine.specs.inner.Steps.{CommitStops, Commits, MakesRoom, Puts, RoomStops};
 
 use crate::Line;
 use input_log::{LogItem, encode, encoded_len};
@@ -18,7 +21,10 @@ use std::marker::Model;
 use thiserror::Error;
 
 /// The most bytes of a payload of several items.
-pub const PAYLOAD_LIMIT: usize = 1_048_576;
+pub const PAYLOAD_LIMIT: usize = 1 << 20;
+
+/// The latest moment of a disk from which a recording counts on, whatever it does.
+pub const EARLY_MOMENT: u64 = 1 << 63;
 
 /// Why a recording stopped.
 #[derive(Clone, Copy, Debug, PartialEq, Eq, Error)]
@@ -40,6 +46,26 @@ impl From<NoMemory> for CaptureFault {
 
     fn from(_error: NoMemory) -> CaptureFault {
         CaptureFault::NoMemory
+    }
+}
+
+impl From<StoreFault> for CaptureFault {
+    ghost use Rattle.capture_engine.specs.declared.recorder.CaptureFault.TheVariants.{Store as of_store};
+
+    ghost from_gives = { λ error fault. fault ≡ of_store error };
+
+    fn from(error: StoreFault) -> CaptureFault {
+        CaptureFault::Store(error)
+    }
+}
+
+impl From<WriteFault> for CaptureFault {
+    ghost use Rattle.capture_engine.specs.declared.recorder.CaptureFault.TheVariants.{WriteFault as write_fault};
+
+    ghost from_gives = { λ _ fault. fault ≡ write_fault };
+
+    fn from(_error: WriteFault) -> CaptureFault {
+        CaptureFault::WriteFault
     }
 }
 
@@ -77,8 +103,8 @@ fn ack_line(ack: Ack) -> Line
 
 // A recording to a store without frames, whose commits of up to `PAYLOAD_LIMIT` bytes take no memory.
 fn over(alloc: Global, store: Store) -> Result<Recorder, NoMemory>
-    ensures { IfOk result (λ recorder. (recorder.store.place ≡ store.place) × (recorder.store.frames ≡ store.frames) × (recorder.store.inputs ≡ store.inputs)
-        × (recorder.store.moments ≡ store.moments) × (recorder.store.stopped ≡ store.stopped) × (recorder.payload ≡ []) × (recorder.inputs ≡ 0)) }
+    ensures same { IfOk result (λ recorder. IsSame store recorder.store) }
+    ensures none { IfOk result (λ recorder. (recorder.payload ≡ []) × (recorder.inputs ≡ 0)) }
 {
     let mut store = store;
     store.reserve(PAYLOAD_LIMIT)?;
@@ -91,20 +117,20 @@ fn over(alloc: Global, store: Store) -> Result<Recorder, NoMemory>
 
 // A session without frames on an empty disk.
 fn create<D: Disk>(alloc: Global, disk: &mut D) -> Result<Recorder, CaptureFault>
-    ensures made { IfOk result (λ recorder. (taken : Option (List ℕ)) (faults out out' : ℕ) → faults ≤ D.faults disk.old → out ≤ out'
-        → Recorded (seen (D.held disk.old) (D.moment disk.old) taken faults out) (seen (D.held disk.new) (D.moment disk.new) taken (D.faults disk.new) out') [] [] recorder) }
+    ensures made { IfOk result (λ recorder. (taken : Option (List ℕ)) (faults out out' : ℕ)
+        → faults ≤ D.faults disk.old → out ≤ out'
+        → Committed (seen (D.held disk.old) (D.moment disk.old) taken faults out)
+        (seen (D.held disk.new) (D.moment disk.new) taken (D.faults disk.new) out')
+        [] [] recorder) }
     ensures inside { IfOk result (λ recorder. IsInside recorder.store (D.held disk.new)) }
-    ensures unmade { IfErr result (λ fault. (taken : Option (List ℕ)) (faults out out' : ℕ) → faults ≤ D.faults disk.old
-        → Unmade fault (seen (D.held disk.old) (D.moment disk.old) taken faults out) (seen (D.held disk.new) (D.moment disk.new) taken (D.faults disk.new) out')) }
+    ensures unmade { IfErr result (λ fault. (taken : Option (List ℕ)) (faults out out' : ℕ)
+        → faults ≤ D.faults disk.old
+        → Unmade fault (seen (D.held disk.old) (D.moment disk.old) taken faults out)
+        (seen (D.held disk.new) (D.moment disk.new) taken (D.faults disk.new) out')) }
 {
-    let store = match Store::create(alloc, disk) {
-        Ok(store) => store,
-        Err(fault) => return Err(CaptureFault::Store(fault)),
-    };
-    match over(alloc, store) {
-        Ok(recorder) => Ok(recorder),
-        Err(NoMemory) => Err(CaptureFault::NoMemory),
-    }
+    let store = Store::create(alloc, disk)?;
+    let recorder = over(alloc, store)?;
+    Ok(recorder)
 }
 
 impl Recorder {
@@ -116,9 +142,12 @@ impl Recorder {
         out: &mut O,
     ) -> Result<Recorder, CaptureFault>
         requires { IsItem head.now }
-        ensures started { IfOk result (λ recorder. Starts head.now (shown D.Disk O.Sink disk.old out.old) (shown D.Disk O.Sink disk.new out.new) recorder) }
+        ensures started { IfOk result (λ recorder. Starts head.now
+            (shown D.Disk O.Sink disk.old out.old) (shown D.Disk O.Sink disk.new out.new)
+            recorder) }
         ensures inside { IfOk result (λ recorder. IsInside recorder.store (D.held disk.new)) }
-        ensures halted { IfErr result (λ fault. StartHalts head.now fault (shown D.Disk O.Sink disk.old out.old) (shown D.Disk O.Sink disk.new out.new)) }
+        ensures halted { IfErr result (λ fault. StartHalts head.now fault
+            (shown D.Disk O.Sink disk.old out.old) (shown D.Disk O.Sink disk.new out.new)) }
     {
         let mut recorder = create(alloc, disk)?;
         recorder.put(head)?;
@@ -129,10 +158,10 @@ impl Recorder {
     // Whether the open frame ends before this item.
     fn ends_before(&self, item: &LogItem) -> bool
         requires { IsItem item.now }
-        ensures { (current : List LogItem) → self.now.payload ≡ payload_of current → result ≡ ends_before current item.now }
+        ensures { (current : List LogItem) → self.now.payload ≡ payload_of current
+            → result ≡ ends_before current item.now }
     {
-        !self.payload.is_empty()
-            && (item.begins_turn() || self.payload.len() + encoded_len(item) > PAYLOAD_LIMIT)
+        !self.payload.is_empty() && self.payload.len() + encoded_len(item) > PAYLOAD_LIMIT
     }
 
     // Puts an item into the open frame.
@@ -149,26 +178,23 @@ impl Recorder {
         Ok(())
     }
 
-    /// Commits the open frame, where it has items, and writes its line: at the end of a turn, and where the next item has to stand in a frame of its own.
-    pub fn flush<D: Disk, O: Sink>(&mut self, disk: &mut D, out: &mut O) -> Result<(), CaptureFault>
+    // Commits the open frame, where it has items, and writes its line.
+    fn flush<D: Disk, O: Sink>(&mut self, disk: &mut D, out: &mut O) -> Result<(), CaptureFault>
         requires { IsInside self.old.store (D.held disk.old) }
-        ensures commits { OnOk result (Commits (shown D.Disk O.Sink disk.old out.old) (shown D.Disk O.Sink disk.new out.new) self.old self.new) }
-        ensures stops { IfErr result (λ fault. CommitStops fault (shown D.Disk O.Sink disk.old out.old) (shown D.Disk O.Sink disk.new out.new) self.old) }
+        ensures commits { OnOk result (Commits (shown D.Disk O.Sink disk.old out.old)
+            (shown D.Disk O.Sink disk.new out.new) self.old self.new) }
+        ensures stops { IfErr result (λ fault. CommitStops fault
+            (shown D.Disk O.Sink disk.old out.old) (shown D.Disk O.Sink disk.new out.new)
+            self.old) }
         ensures inside { OnOk result (IsInside self.new.store (D.held disk.new)) }
     {
         if self.payload.is_empty() {
             return Ok(());
         }
-        let ack = match self.store.commit(disk, &self.payload, self.inputs) {
-            Ok(ack) => ack,
-            Err(fault) => return Err(CaptureFault::Store(fault)),
-        };
+        let ack = self.store.commit(disk, &self.payload, self.inputs)?;
         self.payload.clear();
         self.inputs = 0;
-        match ack_line(ack).write(out) {
-            Ok(()) => {}
-            Err(WriteFault) => return Err(CaptureFault::WriteFault),
-        }
+        ack_line(ack).write(out)?;
         Ok(())
     }
 
@@ -181,8 +207,11 @@ impl Recorder {
     ) -> Result<(), CaptureFault>
         requires inside { IsInside self.old.store (D.held disk.old) }
         requires valid { IsItem item.now }
-        ensures makes { OnOk result (MakesRoom item.now (shown D.Disk O.Sink disk.old out.old) (shown D.Disk O.Sink disk.new out.new) self.old self.new) }
-        ensures halts { IfErr result (λ fault. LogHalts item.now fault (shown D.Disk O.Sink disk.old out.old) (shown D.Disk O.Sink disk.new out.new) self.old) }
+        ensures makes { OnOk result (MakesRoom item.now (shown D.Disk O.Sink disk.old out.old)
+            (shown D.Disk O.Sink disk.new out.new) self.old self.new) }
+        ensures stops { IfErr result (λ fault. RoomStops item.now fault
+            (shown D.Disk O.Sink disk.old out.old) (shown D.Disk O.Sink disk.new out.new)
+            self.old) }
         ensures inside { OnOk result (IsInside self.new.store (D.held disk.new)) }
     {
         if !self.ends_before(item) {
@@ -192,7 +221,7 @@ impl Recorder {
         Ok(())
     }
 
-    /// Logs an item; the open frame is committed first where it ends before the item.
+    /// Logs an item in the turn that runs; the open frame is committed first where it ends before the item.
     pub fn log<D: Disk, O: Sink>(
         &mut self,
         disk: &mut D,
@@ -201,12 +230,33 @@ impl Recorder {
     ) -> Result<(), CaptureFault>
         requires inside { IsInside self.old.store (D.held disk.old) }
         requires valid { IsItem item.now }
-        ensures logs { OnOk result (Logs item.now (shown D.Disk O.Sink disk.old out.old) (shown D.Disk O.Sink disk.new out.new) self.old self.new) }
-        ensures halts { IfErr result (λ fault. LogHalts item.now fault (shown D.Disk O.Sink disk.old out.old) (shown D.Disk O.Sink disk.new out.new) self.old) }
+        ensures logs { OnOk result (Logs item.now (shown D.Disk O.Sink disk.old out.old)
+            (shown D.Disk O.Sink disk.new out.new) self.old self.new) }
+        ensures halts { IfErr result (λ fault. LogHalts item.now fault
+            (shown D.Disk O.Sink disk.old out.old) (shown D.Disk O.Sink disk.new out.new)
+            self.old) }
         ensures inside { OnOk result (IsInside self.new.store (D.held disk.new)) }
     {
         self.make_room(disk, out, item)?;
         self.put(item)?;
+        Ok(())
+    }
+
+    /// Ends the turn that runs, or what there is of it where the run is over: commits the open frame, where it has items, and writes its line.
+    pub fn end_turn<D: Disk, O: Sink>(
+        &mut self,
+        disk: &mut D,
+        out: &mut O,
+    ) -> Result<(), CaptureFault>
+        requires { IsInside self.old.store (D.held disk.old) }
+        ensures ends { OnOk result (EndsTurn (shown D.Disk O.Sink disk.old out.old)
+            (shown D.Disk O.Sink disk.new out.new) self.old self.new) }
+        ensures halts { IfErr result (λ fault. EndHalts fault
+            (shown D.Disk O.Sink disk.old out.old) (shown D.Disk O.Sink disk.new out.new)
+            self.old) }
+        ensures inside { OnOk result (IsInside self.new.store (D.held disk.new)) }
+    {
+        self.flush(disk, out)?;
         Ok(())
     }
 

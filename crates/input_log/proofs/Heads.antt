@@ -1,37 +1,39 @@
 -- Bytes that are the parts of no head.
 use Rattle.std.proofs.Common.{◌≡◌, ◌≢◌, ℕ, ◌+◌, ◌<◌, ◌≤◌, ◌^◌, List, [], ◌∷◌, ◌++◌, length, sym, ◌∙◌, ap, arith, length-append, ◌-◌, take, drop, get_or, Result, Ok, Err, Option, Some, None, IfOk, MatchOption}
-use Rattle.std.specs.Int.{to_be_bytes, w32, w64}
+use Rattle.std.specs.Int.{to_be_bytes, w64}
 use Rattle.std.proofs.lemmas.List.{take_all}
 use Rattle.mug_text.specs.Text.{IsWellFormed, utf8_of}
-use Rattle.input_log.specs.Items.{BeginsWith, BeginsWithNone, HasHead, HasNoHead, encoding, head_parts, sized}
+use Rattle.input_log.specs.Items.{BeginsWith, BeginsWithNone, encoding, sized}
+use Rattle.input_log.specs.declared.item.TheConstants.{HEAD_PAGE_LIMIT, STEPS_LIMIT}
+use Rattle.input_log.specs.inner.Heads.{HasHead, HasNoHead, HasNoLong, HasNoSized, HasNoTime, HasNoWord, head_parts}
 use Rattle.input_log.specs.declared.item.LogItem.{LogItem}
 use Rattle.mug_text.specs.declared.memory.NoMemory.{NoMemory}
 use Rattle.input_log.specs.declared.item.LogItem.TheVariants.{Head, Load, Now, Rand}
 use Rattle.input_log.proofs.Laws.{head_bytes, same_longs, same_parts, same_sized}
 
-pub no_text : (bytes : List ℕ) → ((piece rest : List ℕ) → length piece < 2 ^ 32 → bytes ≢ sized piece ++ rest) → HasNoHead bytes
+pub no_text : (bytes : List ℕ) → HasNoSized bytes → HasNoHead bytes
 no_text bytes none base budget page rest valid same = none (utf8_of base) (to_be_bytes w64 budget ++ (sized page ++ rest)) valid.0.sized same
 
-pub no_budget : (bytes text behind : List ℕ) → length text < 2 ^ 32 → bytes ≡ sized text ++ behind → ((n : ℕ) (rest : List ℕ) → n < 2 ^ 64 → behind ≢ to_be_bytes w64 n ++ rest) → HasNoHead bytes
+pub no_budget : (bytes text behind : List ℕ) → length text < 2 ^ 32 → bytes ≡ sized text ++ behind → HasNoLong behind → HasNoHead bytes
 no_budget bytes text behind fits is none base budget page rest valid same =
     let texts = same_sized text (utf8_of base) behind (to_be_bytes w64 budget ++ (sized page ++ rest)) fits valid.0.sized (sym is ∙ same) in
     none budget (sized page ++ rest) (omega arith) texts.1
 
 pub no_page : (bytes text behind last : List ℕ) (number : ℕ) → length text < 2 ^ 32 → number < 2 ^ 64 → bytes ≡ sized text ++ behind → behind ≡ to_be_bytes w64 number ++ last
-    → ((piece rest : List ℕ) → length piece < 2 ^ 32 → last ≢ sized piece ++ rest) → HasNoHead bytes
+    → HasNoSized last → HasNoHead bytes
 no_page bytes text behind last number fits fits_number is then none base budget page rest valid same =
     let texts = same_sized text (utf8_of base) behind (to_be_bytes w64 budget ++ (sized page ++ rest)) fits valid.0.sized (sym is ∙ same) in
     let budgets = same_longs number budget last (sized page ++ rest) fits_number (omega arith) (sym then ∙ texts.1) in
     none page rest (omega arith) budgets.1
 
 -- the parts as they were read
-pub joined : (bytes text behind last page rest : List ℕ) (number : ℕ) → bytes ≡ sized text ++ behind → behind ≡ to_be_bytes w64 number ++ last → last ≡ sized page ++ rest → bytes ≡ head_parts text number page rest
-joined bytes text behind last page rest number is then end =
+pub parts_read : (bytes text behind last page rest : List ℕ) (number : ℕ) → bytes ≡ sized text ++ behind → behind ≡ to_be_bytes w64 number ++ last → last ≡ sized page ++ rest → bytes ≡ head_parts text number page rest
+parts_read bytes text behind last page rest number is then end =
     is ∙ ap (λ (l : List ℕ). sized text ++ l) (then ∙ ap (λ (l : List ℕ). to_be_bytes w64 number ++ l) end)
 
 -- parts that are out of range, or a text that isn't one
 pub no_range : (bytes text page rest : List ℕ) (number : ℕ) → length text < 2 ^ 32 → number < 2 ^ 64 → length page < 2 ^ 32 → bytes ≡ head_parts text number page rest
-    → (1 ≤ number → number ≤ 1000000000 → length page ≤ 4194754 → ⊥) → HasNoHead bytes
+    → (1 ≤ number → number ≤ STEPS_LIMIT → length page ≤ HEAD_PAGE_LIMIT → ⊥) → HasNoHead bytes
 no_range bytes text page rest number fits fits_number fits_page is out base budget page' rest' valid same =
     let parts = same_parts text number page rest (utf8_of base) budget page' rest' fits valid.0.sized fits_number (omega arith) fits_page (omega arith) (sym is ∙ same) in
     out (omega (arith, parts.1, valid.1)) (omega (arith, parts.1, valid.2)) (omega (arith, ap length parts.2, valid.3))
@@ -54,19 +56,19 @@ begins (x ∷ xs) behind b some first rest =
     let all : take (length (x ∷ xs) - 1) xs ≡ xs = take_all (length (x ∷ xs) - 1) xs (omega arith) in
     λ i. first i ∷ (sym all ∙ sym rest) i
 
-pub only_load : (bytes behind : List ℕ) → bytes ≡ 3 ∷ behind → ((t : ℕ) (rest : List ℕ) → t < 2 ^ 53 → behind ≢ to_be_bytes w64 t ++ rest) → BeginsWithNone bytes
+pub only_load : (bytes behind : List ℕ) → bytes ≡ 3 ∷ behind → HasNoTime behind → BeginsWithNone bytes
 only_load bytes behind is none (Head base budget page) rest valid same = let e : 3 ∷ behind ≡ encoding (Head base budget page) ++ rest = sym is ∙ same in cc
 only_load bytes behind is none (Load t) rest valid same = let e : 3 ∷ behind ≡ encoding (Load t) ++ rest = sym is ∙ same in none t rest valid (cc)
 only_load bytes behind is none (Now v) rest valid same = let e : 3 ∷ behind ≡ encoding (Now v) ++ rest = sym is ∙ same in cc
 only_load bytes behind is none (Rand w) rest valid same = let e : 3 ∷ behind ≡ encoding (Rand w) ++ rest = sym is ∙ same in cc
 
-pub only_now : (bytes behind : List ℕ) → bytes ≡ 9 ∷ behind → ((t : ℕ) (rest : List ℕ) → t < 2 ^ 53 → behind ≢ to_be_bytes w64 t ++ rest) → BeginsWithNone bytes
+pub only_now : (bytes behind : List ℕ) → bytes ≡ 9 ∷ behind → HasNoTime behind → BeginsWithNone bytes
 only_now bytes behind is none (Head base budget page) rest valid same = let e : 9 ∷ behind ≡ encoding (Head base budget page) ++ rest = sym is ∙ same in cc
 only_now bytes behind is none (Load t) rest valid same = let e : 9 ∷ behind ≡ encoding (Load t) ++ rest = sym is ∙ same in cc
 only_now bytes behind is none (Now v) rest valid same = let e : 9 ∷ behind ≡ encoding (Now v) ++ rest = sym is ∙ same in none v rest valid (cc)
 only_now bytes behind is none (Rand w) rest valid same = let e : 9 ∷ behind ≡ encoding (Rand w) ++ rest = sym is ∙ same in cc
 
-pub only_rand : (bytes behind : List ℕ) → bytes ≡ 10 ∷ behind → ((w : ℕ) (rest : List ℕ) → w < 2 ^ 32 → behind ≢ to_be_bytes w32 w ++ rest) → BeginsWithNone bytes
+pub only_rand : (bytes behind : List ℕ) → bytes ≡ 10 ∷ behind → HasNoWord behind → BeginsWithNone bytes
 only_rand bytes behind is none (Head base budget page) rest valid same = let e : 10 ∷ behind ≡ encoding (Head base budget page) ++ rest = sym is ∙ same in cc
 only_rand bytes behind is none (Load t) rest valid same = let e : 10 ∷ behind ≡ encoding (Load t) ++ rest = sym is ∙ same in cc
 only_rand bytes behind is none (Now v) rest valid same = let e : 10 ∷ behind ≡ encoding (Now v) ++ rest = sym is ∙ same in cc

@@ -4,7 +4,8 @@ use Rattle.std.specs.Int.{to_be_bytes, from_be_bytes, w32, w64}
 use Rattle.std.proofs.lemmas.Nat.{from_be_bytes-to_be_bytes_4, from_be_bytes-to_be_bytes_8}
 use Rattle.mug_text.specs.Text.{utf8_of}
 use Rattle.mug_text.proofs.Texts.{same_text}
-use Rattle.input_log.specs.Items.{IsItem, encoding, head_parts, sized}
+use Rattle.input_log.specs.Items.{IsItem, encoding, sized}
+use Rattle.input_log.specs.inner.Heads.{head_parts}
 use Rattle.input_log.specs.declared.item.LogItem.{LogItem}
 use Rattle.input_log.specs.declared.item.LogItem.TheVariants.{Head, Load, Now, Rand}
 

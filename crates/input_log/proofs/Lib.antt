@@ -1,3 +1,4 @@
-pub mod Laws
 pub mod Heads
+pub mod LoggedInputs
+pub mod Laws
 pub mod Parts

@@ -2,7 +2,8 @@
 use Rattle.std.specs.Prelude.{◌≡◌, ◌≢◌, ℕ, ◌<◌, ◌≤◌, ◌^◌, List, ◌∷◌, ◌++◌, length, All}
 use Rattle.std.specs.Int.{to_be_bytes, w32, w64}
 use Rattle.mug_text.specs.Text.{IsWellFormed, utf8_of}
-use Rattle.input_log.specs.declared.item.TheConstants.{STEPS_LIMIT}
+use Rattle.mug_text.specs.declared.limits.TheConstants.{SAFE_END}
+use Rattle.input_log.specs.declared.item.TheConstants.{HEAD_PAGE_LIMIT, STEPS_LIMIT}
 use Rattle.input_log.specs.declared.item.LogItem.{LogItem}
 use Rattle.input_log.specs.declared.item.LogItem.TheVariants.{Head, Load, Now, Rand}
 
@@ -12,23 +13,25 @@ sized bytes = to_be_bytes w32 (length bytes) ++ bytes
 
 -- the bytes of an item
 abbrev pub encoding : LogItem → List ℕ
-encoding (Head base budget page) = 0 ∷ (sized (utf8_of base) ++ (to_be_bytes w64 budget ++ sized page))
+encoding (Head base budget page) =
+    0 ∷ (sized (utf8_of base) ++ (to_be_bytes w64 budget ++ sized page))
 encoding (Load t) = 3 ∷ to_be_bytes w64 t
 encoding (Now v) = 9 ∷ to_be_bytes w64 v
 encoding (Rand w) = 10 ∷ to_be_bytes w32 w
 
 -- a text of 16-bit units whose bytes four bytes can count
-pub record IsBase (base : List ℕ) : Type 0 where
+pub record IsBaseText (base : List ℕ) : Type 0 where
   pub units : All (λ u. u < 2 ^ 16) base
   pub well_formed : IsWellFormed base
   pub sized : length (utf8_of base) < 2 ^ 32
 
--- the fields are in their ranges: moments and readings at most 2^53 - 1, budgets at least 1 and within the limit, random words of 32 bits,
--- pages of at most 4 MiB and 450 bytes
+-- the fields are in their ranges: moments and readings are whole numbers of the language,
+-- budgets at least 1 and within the limit, random words of 32 bits, pages within the limit of a head
 abbrev pub IsItem : LogItem → Type 0
-IsItem (Head base budget page) = IsBase base × (1 ≤ budget) × (budget ≤ STEPS_LIMIT) × (length page ≤ 4194754)
-IsItem (Load t) = t < 2 ^ 53
-IsItem (Now v) = v < 2 ^ 53
+IsItem (Head base budget page) =
+    IsBaseText base × (1 ≤ budget) × (budget ≤ STEPS_LIMIT) × (length page ≤ HEAD_PAGE_LIMIT)
+IsItem (Load t) = t < SAFE_END
+IsItem (Now v) = v < SAFE_END
 IsItem (Rand w) = w < 2 ^ 32
 
 -- the bytes begin with this item, which takes len of them
@@ -40,23 +43,5 @@ pub record BeginsWith (bytes : List ℕ) (item : LogItem) (len : ℕ) : Type 0 w
 
 -- the bytes begin with no item
 abbrev pub BeginsWithNone : List ℕ → Type 0
-BeginsWithNone bytes = (item : LogItem) (rest : List ℕ) → IsItem item → bytes ≢ encoding item ++ rest
-
--- the bytes behind the first of a head with these parts, and then the rest
-abbrev pub head_parts : List ℕ → ℕ → List ℕ → List ℕ → List ℕ
-head_parts text budget page rest = sized text ++ (to_be_bytes w64 budget ++ (sized page ++ rest))
-
--- behind a first byte, the parts of no head
-abbrev pub HasNoHead : List ℕ → Type 0
-HasNoHead bytes = (base : List ℕ) (budget : ℕ) (page rest : List ℕ) → IsItem (Head base budget page) → bytes ≢ head_parts (utf8_of base) budget page rest
-
--- behind a first byte, the parts of this head, which takes len bytes with it
-pub record HasHead (bytes : List ℕ) (item : LogItem) (len : ℕ) : Type 0 where
-  pub base : List ℕ
-  pub budget : ℕ
-  pub page : List ℕ
-  pub rest : List ℕ
-  pub head : item ≡ Head base budget page
-  pub valid : IsItem item
-  pub is : bytes ≡ head_parts (utf8_of base) budget page rest
-  pub takes : len ≡ length (encoding item)
+BeginsWithNone bytes =
+    (item : LogItem) (rest : List ℕ) → IsItem item → bytes ≢ encoding item ++ rest

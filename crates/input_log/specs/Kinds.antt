@@ -12,19 +12,12 @@ is_head (Load t) = false
 is_head (Now v) = false
 is_head (Rand w) = false
 
--- what a page is given while it runs: a turn, a reading of the clock, a random word
+-- an item that logs an input of the page
 abbrev pub is_input : LogItem → Bool
 is_input (Head base budget page) = false
 is_input (Load t) = true
 is_input (Now v) = true
 is_input (Rand w) = true
-
--- the first input of a turn
-abbrev pub begins_turn : LogItem → Bool
-begins_turn (Head base budget page) = false
-begins_turn (Load t) = true
-begins_turn (Now v) = false
-begins_turn (Rand w) = false
 
 -- the word by which a list names an item
 abbrev pub word_of : LogItem → Word

@@ -1,10 +1,17 @@
 // An item of a session file.
 ghost use Rattle.std.specs.Prelude.{◌≡◌};
 
-use mug_text::{Bytes, JText};
+use mug_text::{Bytes, JText, PAGE_LIMIT};
+use page_inputs::PageInput;
 
 /// The most page steps of a budget.
 pub const STEPS_LIMIT: u64 = 1_000_000_000;
+
+/// The bytes of the script that is put into a page before it is recorded.
+pub const SCRIPT_SIZE: usize = 450;
+
+/// The most bytes of a head's page: those of a page as given, and the script.
+pub const HEAD_PAGE_LIMIT: usize = PAGE_LIMIT + SCRIPT_SIZE;
 
 /// What a session file logs. Moments, clock readings and times are in milliseconds.
 #[derive(Debug, Drop)]
@@ -39,7 +46,19 @@ pub enum Word {
 }
 
 impl LogItem {
-    ghost use Rattle.input_log.specs.Kinds.{begins_turn, is_head, is_input, word_of};
+    ghost use Rattle.input_log.specs.Inputs.{item_of};
+    ghost use Rattle.input_log.specs.Kinds.{is_head, is_input, word_of};
+
+    /// The item that logs an input.
+    pub fn of_input(input: &PageInput) -> LogItem
+        ensures { result ≡ item_of input.now }
+    {
+        match input {
+            PageInput::Load { t } => LogItem::Load { t: *t },
+            PageInput::Now { v } => LogItem::Now { v: *v },
+            PageInput::Rand { w } => LogItem::Rand { w: *w },
+        }
+    }
 
     /// Whether it is the item that a session begins with.
     pub fn is_head(&self) -> bool
@@ -55,7 +74,7 @@ impl LogItem {
         }
     }
 
-    /// Whether it is what a page is given while it runs.
+    /// Whether it logs an input.
     pub fn is_input(&self) -> bool
         ensures { result ≡ is_input self.now }
     {
@@ -66,16 +85,6 @@ impl LogItem {
                 page: _,
             } => false,
             _ => true,
-        }
-    }
-
-    /// Whether it is the first input of a turn.
-    pub fn begins_turn(&self) -> bool
-        ensures { result ≡ begins_turn self.now }
-    {
-        match self {
-            LogItem::Load { t: _ } => true,
-            _ => false,
         }
     }
 

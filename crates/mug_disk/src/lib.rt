@@ -4,8 +4,6 @@
 mod disk;
 mod file;
 mod memory;
-#[cfg(test)]
-mod tests;
 
 pub use disk::Disk;
 pub use file::FileDisk;

@@ -18,6 +18,3 @@ pub use sink::{Sink, WriteFault, write_whole};
 pub use source::{ReadAll, Source, read_all};
 pub use std_sink::StdSink;
 pub use std_source::StdSource;
-
-#[cfg(test)]
-mod tests;

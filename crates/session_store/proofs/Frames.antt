@@ -1,7 +1,7 @@
 -- One frame more.
 use Rattle.std.specs.Prelude.{All}
 use Rattle.std.proofs.Common.{◌≡◌, ◌≢◌, ℕ, ◌+◌, ◌<◌, ◌^◌, Bool, true, false, ◌==◌, List, [], ◌∷◌, ◌++◌, length, drop, map, refl, sym, ◌∙◌, ap, subst, arith, append_assoc, length-append}
-use Rattle.std.proofs.lemmas.List.Elements.{All-append, All-head, All-tail, All-push, All-nil}
+use Rattle.std.proofs.lemmas.List.Elements.{All-append, All-head, All-tail, All-push, All-cons, All-nil}
 use Rattle.std.proofs.lemmas.Bool.Decides.{nat_tests}
 use Rattle.std.proofs.lemmas.Grind.{flat_map-append}
 use Rattle.std.proofs.lemmas.List.{append-nil, map-append}
@@ -10,8 +10,8 @@ use Rattle.input_log.specs.Kinds.{is_head}
 use Rattle.input_log.specs.declared.item.LogItem.{LogItem}
 use Rattle.input_log.proofs.Laws.{same_item}
 use Rattle.log_frames.specs.Frames.{OpensFrame, frame, opened}
-use Rattle.session_store.specs.Session.{AreInputs, AreItems, IsLog, KeepsRules, MayFollow, items_of, magic, payload_of}
-use Rattle.session_store.specs.Steps.{AreOfFrames, Follows, MayStand, SoFar}
+use Rattle.session_store.specs.Session.{AreLaterItems, AreItems, IsLog, KeepsRules, MayComeNext, MayGoOn, items_of, magic, payload_of}
+use Rattle.session_store.specs.inner.Steps.{AreOfFrames, Follows, MayStand, SoFar}
 use Rattle.session_store.proofs.Items.{no_bytes}
 
 -- a payload is that of one list of items
@@ -29,14 +29,14 @@ not_empty x xs = grind (arith, nat_tests)
 
 -- the first frame is the one behind no items
 pub stands_there : (before : List (List LogItem)) (old items : List LogItem) (first : Bool) → IsLog before → old ≡ items_of before → first ≡ (length old == 0) → AreItems items
-    → (MayStand first items → MayFollow before items) × (MayFollow before items → MayStand first items)
+    → (MayStand first items → MayComeNext before items) × (MayComeNext before items → MayStand first items)
 stands_there [] old items first log is empty valid =
     let e : first ≡ true = empty ∙ ap (λ (l : List LogItem). length l == 0) is in
-    subst (λ (b : Bool). (MayStand b items → MayFollow [] items) × (MayFollow [] items → MayStand b items)) (sym e) ((λ s. (valid, s)), (λ f. f.1))
+    subst (λ (b : Bool). (MayStand b items → MayComeNext [] items) × (MayComeNext [] items → MayStand b items)) (sym e) ((λ s. (valid, s)), (λ f. f.1))
 stands_there (g ∷ gs) old items first log is empty valid =
     let head = log.0.1 in
     let e : first ≡ false = empty ∙ ap (λ (l : List LogItem). length l == 0) (is ∙ ap (λ (l : List LogItem). l ++ items_of gs) head.1) ∙ not_empty head.0 (items_of gs) in
-    subst (λ (b : Bool). (MayStand b items → MayFollow (g ∷ gs) items) × (MayFollow (g ∷ gs) items → MayStand b items)) (sym e) ((λ s. (valid, s)), (λ f. f.1))
+    subst (λ (b : Bool). (MayStand b items → MayComeNext (g ∷ gs) items) × (MayComeNext (g ∷ gs) items → MayStand b items)) (sym e) ((λ s. (valid, s)), (λ f. f.1))
 
 pub frame_reads : (before : List (List LogItem)) (old new items : List LogItem) (payload : List ℕ) (first : Bool) → IsLog before → old ≡ items_of before → first ≡ (length old == 0)
     → AreItems items → payload ≡ payload_of items → MayStand first items → new ≡ old ++ items → Follows before payload old new
@@ -44,13 +44,13 @@ frame_reads before old new items payload first log is empty valid reads stands g
     (items, (stands_there before old items first log is empty valid).0 stands, reads, grown)
 
 pub frame_stands_not : (before : List (List LogItem)) (old items : List LogItem) (payload : List ℕ) (first : Bool) → IsLog before → old ≡ items_of before → first ≡ (length old == 0)
-    → AreItems items → payload ≡ payload_of items → (MayStand first items → ⊥) → (group : List LogItem) → MayFollow before group → payload ≢ payload_of group
+    → AreItems items → payload ≡ payload_of items → (MayStand first items → ⊥) → (group : List LogItem) → MayComeNext before group → payload ≢ payload_of group
 frame_stands_not before old items payload first log is empty valid reads stands_not group follows same =
     let valid_group : AreItems group = items_valid before group follows in
     let e : group ≡ items = same_items group items valid_group valid (sym same ∙ reads) in
     stands_not (subst (MayStand first) e ((stands_there before old group first log is empty valid_group).1 follows))
   where
-    items_valid : (before : List (List LogItem)) (group : List LogItem) → MayFollow before group → AreItems group
+    items_valid : (before : List (List LogItem)) (group : List LogItem) → MayComeNext before group → AreItems group
     items_valid [] group follows = follows.0
     items_valid (g ∷ gs) group follows = follows.0
 
@@ -65,9 +65,27 @@ length-opened-push ps p =
     let e = ap length (sym (append-nil (opened (ps ++ p ∷ []))) ∙ opened-push ps p []) in
     omega (arith, e, length-append (opened ps) (1 ∷ (frame p ++ [])), length-append (frame p) [])
 
-log-push : (before : List (List LogItem)) (items : List LogItem) → IsLog before → MayFollow before items → IsLog (before ++ items ∷ [])
-log-push [] items log follows = (follows, All-nil (λ group. AreItems group × AreInputs group))
-log-push (g ∷ gs) items log follows = (log.0, All-push (λ group. AreItems group × AreInputs group) gs items log.1 follows)
+-- ---- frames that go on
+
+go_on-push : (front frames : List (List LogItem)) (items : List LogItem) → MayGoOn front frames → MayComeNext (front ++ frames) items → MayGoOn front (frames ++ items ∷ [])
+go_on-push front [] items on next = (subst (λ (l : List (List LogItem)). MayComeNext l items) (append-nil front) next, tt)
+go_on-push front (g ∷ gs) items on next =
+    (on.0, go_on-push (front ++ g ∷ []) gs items on.1 (subst (λ (l : List (List LogItem)). MayComeNext l items) (sym (append_assoc front (g ∷ []) gs)) next))
+
+pub log-push : (before : List (List LogItem)) (items : List LogItem) → IsLog before → MayComeNext before items → IsLog (before ++ items ∷ [])
+log-push before items log next = go_on-push [] before items log next
+
+-- those after the first have no head
+pub later_frames : (first : List LogItem) (others frames : List (List LogItem)) → MayGoOn (first ∷ others) frames → All (λ items. AreItems items × AreLaterItems items) frames
+later_frames first others [] on = All-nil (λ items. AreItems items × AreLaterItems items)
+later_frames first others (items ∷ frames) on =
+    All-cons (λ items. AreItems items × AreLaterItems items) items frames on.0 (later_frames first (others ++ items ∷ []) frames on.1)
+
+-- and such frames may come after it
+pub may_go_on : (first : List LogItem) (others frames : List (List LogItem)) → All (λ items. AreItems items × AreLaterItems items) frames → MayGoOn (first ∷ others) frames
+may_go_on first others [] all = tt
+may_go_on first others (items ∷ frames) all =
+    (All-head (λ items. AreItems items × AreLaterItems items) items frames all, may_go_on first (others ++ items ∷ []) frames (All-tail (λ items. AreItems items × AreLaterItems items) items frames all))
 
 -- a frame that reads, behind those so far
 pub further : (bytes payload : List ℕ) (old new : List LogItem) (at at' : ℕ) → (so_far : SoFar bytes old at) → OpensFrame (drop at bytes) payload (drop at' bytes) → at' ≡ at + 5 + length payload
@@ -118,8 +136,9 @@ log_keeps : (frames : List (List LogItem)) → IsLog frames → KeepsRules (item
 log_keeps [] log = tt
 log_keeps (first ∷ others) log =
     let head = log.0.1 in
-    let valid : AreItems (items_of others) = later_items IsItem (λ items. AreItems items × AreInputs items) others (λ items q. q.0) log.1 in
-    let no_head : All (λ item. is_head item ≡ false) (items_of others) = later_items (λ item. is_head item ≡ false) (λ items. AreItems items × AreInputs items) others (λ items q. q.1.1) log.1 in
+    let later = later_frames first [] others log.1 in
+    let valid : AreItems (items_of others) = later_items IsItem (λ items. AreItems items × AreLaterItems items) others (λ items q. q.0) later in
+    let no_head : All (λ item. is_head item ≡ false) (items_of others) = later_items (λ item. is_head item ≡ false) (λ items. AreItems items × AreLaterItems items) others (λ items q. q.1.1) later in
     subst (λ (l : List LogItem). KeepsRules (l ++ items_of others)) (sym head.1)
     (All-append IsItem (head.0 ∷ []) (items_of others) (subst (All IsItem) head.1 log.0.0) valid, head.2, no_head)
 

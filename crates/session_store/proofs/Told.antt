@@ -4,7 +4,7 @@ use Rattle.std.proofs.lemmas.List.{take-append-drop}
 use Rattle.input_log.specs.declared.item.LogItem.{LogItem}
 use Rattle.log_frames.specs.Frames.{OpensFrame}
 use Rattle.session_store.specs.Session.{HasHeader, IsLog, items_of, magic}
-use Rattle.session_store.specs.Steps.{Follows, SoFar}
+use Rattle.session_store.specs.inner.Steps.{Follows, SoFar}
 use Rattle.session_store.proofs.Frames.{further}
 
 pub tell_further : (o o' : Option (List ℕ)) (payload : List ℕ) (old new : List LogItem) (at at' : ℕ) → o' ≡ o → IfSome o (λ h. HasHeader h → SoFar h old at)

@@ -4,13 +4,13 @@ use Rattle.std.proofs.lemmas.List.Elements.{All-head, All-tail}
 use Rattle.input_log.specs.declared.item.LogItem.{LogItem}
 use Rattle.input_log.proofs.Laws.{same_fronts, same_sized}
 use Rattle.log_frames.specs.Frames.{OpensFrame, frame, opened}
-use Rattle.session_store.specs.Session.{AreInputs, AreItems, HasHeader, IsLog, MayFollow, items_of, magic, payload_of}
-use Rattle.session_store.specs.Recovery.{Broken, Found, HasFrames, IsBroken, IsWhole, NoHeader, Recovers, Whole, place_behind}
-use Rattle.session_store.proofs.Frames.{same_items}
+use Rattle.session_store.specs.Session.{AreLaterItems, AreItems, HasHeader, IsLog, MayComeNext, items_of, magic, payload_of}
+use Rattle.session_store.specs.Recovery.{Broken, Found, HasFrames, IsBroken, IsWhole, NoHeader, Recovers, Whole, place_after}
+use Rattle.session_store.proofs.Frames.{later_frames, same_items}
 
 -- the items of a frame behind the first
 abbrev Later : List LogItem → Type 0
-Later items = AreItems items × AreInputs items
+Later items = AreItems items × AreLaterItems items
 
 abbrev Fits : List LogItem → Type 0
 Fits items = length (payload_of items) < 2 ^ 32
@@ -60,27 +60,27 @@ same_later (x ∷ xs) (y ∷ ys) r s later_x later_y fits_x fits_y some_r some_s
     let others = same_later xs ys r s (All-tail Later x xs later_x) (All-tail Later y ys later_y) (All-tail Fits x xs fits_x) (All-tail Fits y ys fits_y) some_r some_s stops_r stops_s first.1 in
     ((λ i. first.0 i ∷ others.0 i), others.1)
 
-same_log : (xs ys : List (List LogItem)) (r s : List ℕ) → IsLog xs → IsLog ys → All Fits xs → All Fits ys → r ≢ [] → s ≢ [] → Stops (MayFollow xs) r → Stops (MayFollow ys) s
+same_log : (xs ys : List (List LogItem)) (r s : List ℕ) → IsLog xs → IsLog ys → All Fits xs → All Fits ys → r ≢ [] → s ≢ [] → Stops (MayComeNext xs) r → Stops (MayComeNext ys) s
     → opened (map payload_of xs) ++ r ≡ opened (map payload_of ys) ++ s → (xs ≡ ys) × (r ≡ s)
 same_log [] [] r s log_x log_y fits_x fits_y some_r some_s stops_r stops_s same = (refl, same)
-same_log [] (y ∷ ys) r s log_x log_y fits_x fits_y some_r some_s stops_r stops_s same = absurd (goes_on (MayFollow []) r y ys s stops_r log_y.0 (All-head Fits y ys fits_y) some_s same)
-same_log (x ∷ xs) [] r s log_x log_y fits_x fits_y some_r some_s stops_r stops_s same = absurd (goes_on (MayFollow []) s x xs r stops_s log_x.0 (All-head Fits x xs fits_x) some_r (sym same))
+same_log [] (y ∷ ys) r s log_x log_y fits_x fits_y some_r some_s stops_r stops_s same = absurd (goes_on (MayComeNext []) r y ys s stops_r log_y.0 (All-head Fits y ys fits_y) some_s same)
+same_log (x ∷ xs) [] r s log_x log_y fits_x fits_y some_r some_s stops_r stops_s same = absurd (goes_on (MayComeNext []) s x xs r stops_s log_x.0 (All-head Fits x xs fits_x) some_r (sym same))
 same_log (x ∷ xs) (y ∷ ys) r s log_x log_y fits_x fits_y some_r some_s stops_r stops_s same =
     let first = same_first x y (map payload_of xs) (map payload_of ys) r s log_x.0.0 log_y.0.0 (All-head Fits x xs fits_x) (All-head Fits y ys fits_y) same in
-    let others = same_later xs ys r s log_x.1 log_y.1 (All-tail Fits x xs fits_x) (All-tail Fits y ys fits_y) some_r some_s stops_r stops_s first.1 in
+    let others = same_later xs ys r s (later_frames x [] xs log_x.1) (later_frames y [] ys log_y.1) (All-tail Fits x xs fits_x) (All-tail Fits y ys fits_y) some_r some_s stops_r stops_s first.1 in
     ((λ i. first.0 i ∷ others.0 i), others.1)
 
 -- frames that stop are all that the bytes have
-same_frames : (bytes : List ℕ) (xs ys : List (List LogItem)) (r s : List ℕ) → HasFrames bytes xs r → HasFrames bytes ys s → Stops (MayFollow xs) r → Stops (MayFollow ys) s → (xs ≡ ys) × (r ≡ s)
+same_frames : (bytes : List ℕ) (xs ys : List (List LogItem)) (r s : List ℕ) → HasFrames bytes xs r → HasFrames bytes ys s → Stops (MayComeNext xs) r → Stops (MayComeNext ys) s → (xs ≡ ys) × (r ≡ s)
 same_frames bytes xs ys r s has_x has_y stops_r stops_s =
     same_log xs ys r s has_x.log has_y.log has_x.sized has_y.sized has_x.gate has_y.gate stops_r stops_s
     (same_fronts magic magic (opened (map payload_of xs) ++ r) (opened (map payload_of ys) ++ s) refl (sym has_x.is ∙ has_y.is)).1
 
-stops_broken : (bytes : List ℕ) (at : ℕ) (payload : List ℕ) → (broken : IsBroken bytes at payload) → Stops (MayFollow broken.frames) broken.rest
+stops_broken : (bytes : List ℕ) (at : ℕ) (payload : List ℕ) → (broken : IsBroken bytes at payload) → Stops (MayComeNext broken.frames) broken.rest
 stops_broken bytes at payload broken found behind opens items follows same =
     broken.unread items follows (one_frame broken.rest payload found broken.after behind broken.opens opens ∙ same)
 
-stops_whole : (bytes : List ℕ) (items : List LogItem) (end : ℕ) → (whole : IsWhole bytes items end) → Stops (MayFollow whole.frames) whole.rest
+stops_whole : (bytes : List ℕ) (items : List LogItem) (end : ℕ) → (whole : IsWhole bytes items end) → Stops (MayComeNext whole.frames) whole.rest
 stops_whole bytes items end whole found behind opens others follows same = whole.ends found behind opens
 
 header_of : (bytes : List ℕ) (frames : List (List LogItem)) (rest : List ℕ) → HasFrames bytes frames rest → HasHeader bytes
@@ -91,7 +91,7 @@ header_of bytes (x ∷ xs) rest has = record { gate = 1; rest = (frame (payload_
 one_broken : (bytes : List ℕ) (at at' : ℕ) (p q : List ℕ) → IsBroken bytes at p → IsBroken bytes at' q → Broken at p ≡ Broken at' q
 one_broken bytes at at' p q a b =
     let same = same_frames bytes a.frames b.frames a.rest b.rest a.has b.has (stops_broken bytes at p a) (stops_broken bytes at' q b) in
-    let places : at ≡ at' = a.place ∙ ap place_behind same.0 ∙ sym b.place in
+    let places : at ≡ at' = a.place ∙ ap place_after same.0 ∙ sym b.place in
     let opens : OpensFrame b.rest p a.after = subst (λ (l : List ℕ). OpensFrame l p a.after) same.1 a.opens in
     let payloads = one_frame b.rest p q a.after b.after opens b.opens in
     λ i. Broken (places i) (payloads i)
@@ -100,7 +100,7 @@ one_whole : (bytes : List ℕ) (items others : List LogItem) (end end' : ℕ) �
 one_whole bytes items others end end' a b =
     let same = same_frames bytes a.frames b.frames a.rest b.rest a.has b.has (stops_whole bytes items end a) (stops_whole bytes others end' b) in
     let inside : items ≡ others = a.items_are ∙ ap items_of same.0 ∙ sym b.items_are in
-    let places : end ≡ end' = a.place ∙ ap place_behind same.0 ∙ sym b.place in
+    let places : end ≡ end' = a.place ∙ ap place_after same.0 ∙ sym b.place in
     λ i. Whole (inside i) (places i)
 
 not_both : (bytes : List ℕ) (items : List LogItem) (at end : ℕ) (payload : List ℕ) → IsBroken bytes at payload → IsWhole bytes items end → ⊥

@@ -6,8 +6,9 @@ use Rattle.mug_disk.specs.Held.{Lifted, over}
 use Rattle.input_log.specs.declared.item.LogItem.{LogItem}
 use Rattle.log_frames.specs.Frames.{frame, opened}
 use Rattle.session_store.specs.Session.{magic, payload_of}
-use Rattle.session_store.specs.Recovery.{place_behind}
-use Rattle.session_store.specs.Keeping.{IsClosed, IsEither, Leaves, SameBut, session}
+use Rattle.session_store.specs.Recovery.{place_after}
+use Rattle.session_store.specs.Keeping.{IsClosed, IsEither, session}
+use Rattle.session_store.specs.inner.Writes.{Leaves, SameBut}
 use Rattle.session_store.proofs.Frames.{opened-push}
 
 pub over_at : (front back bytes : List ℕ) (at : ℕ) → length front ≡ at → over at bytes (front ++ back) ≡ front ++ (bytes ++ drop (length bytes) back)
@@ -47,14 +48,14 @@ gate_written (Some h) (Some b) (Some c) place bytes behind inside first second =
 abbrev pub before_gate : List (List LogItem) → List ℕ
 before_gate frames = magic ++ opened (map payload_of frames)
 
-length_before : (frames : List (List LogItem)) (place : ℕ) → place ≡ place_behind frames → length (before_gate frames) + 1 ≡ place
+length_before : (frames : List (List LogItem)) (place : ℕ) → place ≡ place_after frames → length (before_gate frames) + 1 ≡ place
 length_before frames place is = omega (arith, length-append magic (opened (map payload_of frames)))
 
 regroup : (frames : List (List LogItem)) (gate : ℕ) (rest : List ℕ) → session frames gate rest ≡ before_gate frames ++ gate ∷ rest
 regroup frames gate rest = sym (append_assoc magic (opened (map payload_of frames)) (gate ∷ rest))
 
 -- the frame behind the closed gate
-pub staged : (frames : List (List LogItem)) (gate : ℕ) (rest payload : List ℕ) (place : ℕ) → place ≡ place_behind frames
+pub staged : (frames : List (List LogItem)) (gate : ℕ) (rest payload : List ℕ) (place : ℕ) → place ≡ place_after frames
     → over place (frame payload ++ 0 ∷ []) (session frames gate rest) ≡ before_gate frames ++ gate ∷ (frame payload ++ 0 ∷ drop (5 + length payload) rest)
 staged frames gate rest payload place is =
     let front = before_gate frames ++ gate ∷ [] in
@@ -75,7 +76,7 @@ one_more_frame frames items rest payload is =
     (sym (opened-push (map payload_of frames) payload (0 ∷ rest))
     ∙ ap (λ (l : List (List ℕ)). opened l ++ 0 ∷ rest) (ap (λ (p : List ℕ). map payload_of frames ++ p ∷ []) is ∙ sym (map-append payload_of frames (items ∷ []))))
 
-pub committed : (frames : List (List LogItem)) (items : List LogItem) (gate : ℕ) (rest payload bytes : List ℕ) (place : ℕ) (o o' : Option (List ℕ)) → place ≡ place_behind frames → payload ≡ payload_of items
+pub committed : (frames : List (List LogItem)) (items : List LogItem) (gate : ℕ) (rest payload bytes : List ℕ) (place : ℕ) (o o' : Option (List ℕ)) → place ≡ place_after frames → payload ≡ payload_of items
     → bytes ≡ frame payload ++ 0 ∷ [] → o ≡ Some (session frames gate rest) → o' ≡ option_map (λ h. over (place - 1) (1 ∷ []) (over place bytes h)) o
     → o' ≡ Some (session (frames ++ items ∷ []) 0 (drop (5 + length payload) rest))
 committed frames items gate rest payload bytes place o o' is payload_is frame_is old new =
@@ -94,7 +95,7 @@ one_or_not (suc zero) = inl refl
 one_or_not (suc (suc n)) = inr (λ e. absurd (omega arith))
 
 -- a front that is a session's up to its gate makes a session
-kept_front : (frames : List (List LogItem)) (gate : ℕ) (rest : List ℕ) (place : ℕ) (h : List ℕ) → gate ≢ 1 → place ≡ place_behind frames → take place h ≡ take place (session frames gate rest) → IsClosed frames h
+kept_front : (frames : List (List LogItem)) (gate : ℕ) (rest : List ℕ) (place : ℕ) (h : List ℕ) → gate ≢ 1 → place ≡ place_after frames → take place h ≡ take place (session frames gate rest) → IsClosed frames h
 kept_front frames gate rest place h shut is same =
     let front = before_gate frames ++ gate ∷ [] in
     let long : length front ≡ place = omega (arith, length-append (before_gate frames) (gate ∷ []), length_before frames place is) in
@@ -107,7 +108,7 @@ kept_front frames gate rest place h shut is same =
     )
 
 -- any byte as the gate in front of a frame that is written
-any_gate : (frames : List (List LogItem)) (items : List LogItem) (gate : ℕ) (rest payload : List ℕ) (place : ℕ) (h : List ℕ) → place ≡ place_behind frames → payload ≡ payload_of items
+any_gate : (frames : List (List LogItem)) (items : List LogItem) (gate : ℕ) (rest payload : List ℕ) (place : ℕ) (h : List ℕ) → place ≡ place_after frames → payload ≡ payload_of items
     → SameBut (place - 1) (before_gate frames ++ gate ∷ (frame payload ++ 0 ∷ rest)) h → IsEither frames items h
 any_gate frames items gate rest payload place h is payload_is same =
     let whole = before_gate frames ++ gate ∷ (frame payload ++ 0 ∷ rest) in
@@ -129,7 +130,7 @@ any_gate frames items gate rest payload place h is payload_is same =
     zero_not_one : ◌≢◌ {A = ℕ} 0 1
     zero_not_one = λ e. cc
 
-pub left_behind : (frames : List (List LogItem)) (items : List LogItem) (gate : ℕ) (rest payload bytes : List ℕ) (place : ℕ) (o o' : Option (List ℕ)) → gate ≢ 1 → place ≡ place_behind frames → payload ≡ payload_of items
+pub left_behind : (frames : List (List LogItem)) (items : List LogItem) (gate : ℕ) (rest payload bytes : List ℕ) (place : ℕ) (o o' : Option (List ℕ)) → gate ≢ 1 → place ≡ place_after frames → payload ≡ payload_of items
     → bytes ≡ frame payload ++ 0 ∷ [] → o ≡ Some (session frames gate rest) → Lifted (Leaves place bytes) o o' → IfSome o' (IsEither frames items)
 left_behind frames items gate rest payload bytes place None o' shut is payload_is frame_is old left = absurd (cc)
 left_behind frames items gate rest payload bytes place (Some h) None shut is payload_is frame_is old left = absurd left

@@ -1,5 +1,5 @@
 pub mod Session
 pub mod Recovery
 pub mod Telling
-pub mod Steps
 pub mod Keeping
+pub mod inner

@@ -31,25 +31,30 @@ abbrev pub IsHeadAlone : List LogItem → Type 0
 IsHeadAlone items = (head : LogItem) × (items ≡ head ∷ []) × (is_head head ≡ true)
 
 -- the items of a later frame: one or more, and no head
-abbrev pub AreInputs : List LogItem → Type 0
-AreInputs items = (items ≢ []) × All (λ item. is_head item ≡ false) items
+abbrev pub AreLaterItems : List LogItem → Type 0
+AreLaterItems items = (items ≢ []) × All (λ item. is_head item ≡ false) items
 
--- the items of a session's frames, frame by frame
+-- these items may come next, in a frame after those: a head alone in the first, and none in a later one
+abbrev pub MayComeNext : List (List LogItem) → List LogItem → Type 0
+MayComeNext [] items = AreItems items × IsHeadAlone items
+MayComeNext (first ∷ others) items = AreItems items × AreLaterItems items
+
+-- these frames may come after those, one after another
+abbrev pub MayGoOn : List (List LogItem) → List (List LogItem) → Type 0
+MayGoOn before [] = Unit {0}
+MayGoOn before (items ∷ frames) = MayComeNext before items × MayGoOn (before ++ items ∷ []) frames
+
+-- the items of a session's frames, frame by frame: each may come next after the frames before it
 abbrev pub IsLog : List (List LogItem) → Type 0
-IsLog [] = Unit {0}
-IsLog (first ∷ others) = (AreItems first × IsHeadAlone first) × All (λ items. AreItems items × AreInputs items) others
+IsLog frames = MayGoOn [] frames
 
--- the items that may stand in a frame behind these
-abbrev pub MayFollow : List (List LogItem) → List LogItem → Type 0
-MayFollow [] items = AreItems items × IsHeadAlone items
-MayFollow (first ∷ others) items = AreItems items × AreInputs items
-
--- the rules on all items in a row: there are none, or a head and behind it no head, and each is in its ranges
+-- the rules on all items in a row: there are none, or a head and after it no head, and each is in its ranges
 abbrev pub KeepsRules : List LogItem → Type 0
 KeepsRules [] = Unit {0}
-KeepsRules (head ∷ inputs) = AreItems (head ∷ inputs) × (is_head head ≡ true) × All (λ item. is_head item ≡ false) inputs
+KeepsRules (head ∷ others) =
+    AreItems (head ∷ others) × (is_head head ≡ true) × All (λ item. is_head item ≡ false) others
 
--- what contracts see of a session that was recovered: its items, and the offset just behind its last open, whole frame
+-- what contracts see of a session that was recovered: its items, and the offset just after its last open, whole frame
 pub record SessionState : Type 0 where
   pub items : List LogItem
   pub end : ℕ

@@ -1,5 +1,7 @@
 -- What `recover` answers.
 use Rattle.std.specs.Prelude.{ℕ, List, Result, Ok, Err}
+use Rattle.log_frames.specs.declared.reader.FrameFault.{FrameFault}
+use Rattle.log_frames.specs.declared.reader.FrameFault.TheVariants as frame
 use Rattle.session_store.specs.Recovery.{Recovers, NoHeader, Broken, Whole}
 use Rattle.session_store.specs.Session.{SessionState}
 use Rattle.session_store.specs.declared.recovery.RecoverFault.{RecoverFault}
@@ -16,3 +18,8 @@ Refuses NoMemory bytes = Unit {0}
 abbrev pub Tells : Result SessionState RecoverFault → List ℕ → Type 0
 Tells (Ok session) bytes = Recovers bytes (Whole session.items session.end)
 Tells (Err fault) bytes = Refuses fault bytes
+
+-- the same fault of a reader of frames
+abbrev pub of_frame : FrameFault → RecoverFault
+of_frame frame.ReadFault = DiskFault
+of_frame frame.NoMemory = NoMemory

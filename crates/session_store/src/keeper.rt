@@ -1,12 +1,10 @@
 // Commits frames to a session file, each written and synced before its gate is opened.
-ghost use Rattle.std.specs.Prelude.{◌≡◌, ◌≢◌, ◌⊎◌, ℕ, ◌+◌, ◌-◌, ◌*◌, ◌<◌, ◌≤◌, ◌^◌, List, [], ◌∷◌, ◌++◌, length, drop, Some, None, option_map, IfSome, IfOk, OnOk, OnErr, IsErrOf, true, false, vec_capacity};
+ghost use Rattle.std.specs.Prelude.{◌≡◌, ◌≢◌, ◌⊎◌, ℕ, ◌+◌, ◌-◌, ◌*◌, ◌<◌, ◌≤◌, ◌^◌, [], ◌∷◌, ◌++◌, length, None, option_map, IfSome, IfOk, OnOk, OnErr, IsErrOf, true, false, vec_capacity};
 ghost use Rattle.mug_outside.specs.Cause.{HasCause, Rose};
 ghost use Rattle.mug_disk.specs.Held.{Lifted, over};
-ghost use Rattle.input_log.specs.declared.item.LogItem.{LogItem};
 ghost use Rattle.log_frames.specs.Frames.{frame};
-ghost use Rattle.session_store.specs.Session.{payload_of};
-ghost use Rattle.session_store.specs.Recovery.{place_behind};
-ghost use Rattle.session_store.specs.Keeping.{IsEither, Leaves, file, session};
+ghost use Rattle.session_store.specs.Keeping.{AddsFrame, HasGrown, IsInside, IsNew, IsSame, IsWithin, LeavesEither, file};
+ghost use Rattle.session_store.specs.inner.Writes.{Leaves};
 
 use mug_disk::Disk;
 use mug_outside::Failed;
@@ -18,8 +16,8 @@ use thiserror::Error;
 /// The most bytes of a session.
 pub const SESSION_LIMIT: u64 = 4_294_967_296;
 
-/// A disk counts moments up to this, 2^64 - 1. What a call adds to a moment is said where no count comes to it.
-pub const MOMENT_END: u64 = 18_446_744_073_709_551_615;
+/// A disk counts moments up to this. What a call adds to a moment is said where no count comes to it.
+pub const MOMENT_END: u64 = u64::MAX;
 
 /// A session that is being written, frame by frame.
 #[derive(Debug, Drop)]
@@ -39,9 +37,17 @@ impl Model for Store {
 
     ghost Value = { StoreState };
 
-    ghost view = { λ s. record { place = s.place; frames = s.frames; inputs = s.inputs; moments = s.moments; spare = vec_capacity s.buffer - 5; stopped = s.stopped } };
+    ghost view = { λ s. record {
+      place = s.place;
+      frames = s.frames;
+      inputs = s.inputs;
+      moments = s.moments;
+      spare = vec_capacity s.buffer - 5;
+      stopped = s.stopped;
+    } };
 
-    ghost invariant = { λ s. (9 ≤ s.place) × (s.place ≤ SESSION_LIMIT) × (5 * s.frames ≤ s.place) × (s.inputs ≤ s.place) × (s.moments ≤ 2 + 4 * s.frames) };
+    ghost invariant = { λ s. (9 ≤ s.place) × (s.place ≤ SESSION_LIMIT) × (5 * s.frames ≤ s.place)
+        × (s.inputs ≤ s.place) × (s.moments ≤ 2 + 4 * s.frames) };
 }
 
 /// What a commit answers.
@@ -72,6 +78,26 @@ pub enum StoreFault {
     NoMemory,
 }
 
+impl From<Failed> for StoreFault {
+    ghost use Rattle.session_store.specs.declared.keeper.StoreFault.TheVariants.{DiskFault as disk_fault};
+
+    ghost from_gives = { λ _ fault. fault ≡ disk_fault };
+
+    fn from(_error: Failed) -> StoreFault {
+        StoreFault::DiskFault
+    }
+}
+
+impl From<NoMemory> for StoreFault {
+    ghost use Rattle.session_store.specs.declared.keeper.StoreFault.TheVariants.{NoMemory as no_memory};
+
+    ghost from_gives = { λ _ fault. fault ≡ no_memory };
+
+    fn from(_error: NoMemory) -> StoreFault {
+        StoreFault::NoMemory
+    }
+}
+
 // The frame's bytes and the next gate, closed.
 fn fill(buffer: &mut Vec<u8>, payload: &[u8]) -> Result<(), NoMemory>
     requires { length payload.now < 2 ^ 32 }
@@ -88,12 +114,16 @@ fn fill(buffer: &mut Vec<u8>, payload: &[u8]) -> Result<(), NoMemory>
 
 // A frame and the next gate, closed, and then its own gate, open: four calls of the disk.
 fn write_frame<D: Disk>(disk: &mut D, place: u64, frame: &[u8]) -> Result<(), Failed>
-    requires inside { IfSome (D.held disk.old) (λ held. place ≤ length held) }
-    requires behind { 1 ≤ place }
-    ensures ok { OnOk result (D.held disk.new ≡ option_map (λ held. over (place - 1) (1 ∷ []) (over place frame.now held)) (D.held disk.old)) }
-    ensures moment { OnOk result (D.moment disk.old + 4 < MOMENT_END → D.moment disk.new ≡ D.moment disk.old + 4) }
-    ensures err_moment { OnErr result (D.moment disk.old + 4 < MOMENT_END → (D.moment disk.old < D.moment disk.new) × (D.moment disk.new ≤ D.moment disk.old + 4)) }
-    ensures left { OnErr result (Lifted (Leaves place frame.now) (D.held disk.old) (D.held disk.new)) }
+    requires inside { IsWithin place (D.held disk.old) }
+    requires after_gate { 1 ≤ place }
+    ensures ok { OnOk result (D.held disk.new ≡ option_map
+        (λ held. over (place - 1) (1 ∷ []) (over place frame.now held)) (D.held disk.old)) }
+    ensures moment { OnOk result (D.moment disk.old + 4 < MOMENT_END
+        → D.moment disk.new ≡ D.moment disk.old + 4) }
+    ensures err_moment { OnErr result (D.moment disk.old + 4 < MOMENT_END
+        → (D.moment disk.old < D.moment disk.new) × (D.moment disk.new ≤ D.moment disk.old + 4)) }
+    ensures left { OnErr result
+        (Lifted (Leaves place frame.now) (D.held disk.old) (D.held disk.new)) }
     ensures cause { HasCause (D.faults disk.old) (D.faults disk.new) result }
 {
     disk.write_at(place, frame)?;
@@ -105,30 +135,31 @@ fn write_frame<D: Disk>(disk: &mut D, place: u64, frame: &[u8]) -> Result<(), Fa
 impl Store {
     /// Writes the header of a new session and syncs it.
     pub fn create<D: Disk>(alloc: Global, disk: &mut D) -> Result<Store, StoreFault>
-        ensures made { IfOk result (λ store. (store.place ≡ 9) × (store.frames ≡ 0) × (store.inputs ≡ 0) × (store.moments ≡ 2) × (store.stopped ≡ false)) }
+        ensures made { IfOk result IsNew }
         ensures file { OnOk result (D.held disk.new ≡ option_map (λ _. file []) (D.held disk.old)) }
-        ensures inside { IfOk result (λ store. IfSome (D.held disk.new) (λ held. store.place ≤ length held)) }
+        ensures inside { IfOk result (λ store. IsWithin store.place (D.held disk.new)) }
         ensures empty { OnOk result (IfSome (D.held disk.old) (λ held. held ≡ [])) }
-        ensures moment { OnOk result (D.moment disk.old + 2 < MOMENT_END → D.moment disk.new ≡ D.moment disk.old + 2) }
+        ensures moment { OnOk result (D.moment disk.old + 2 < MOMENT_END
+            → D.moment disk.new ≡ D.moment disk.old + 2) }
 
-        ensures not_empty { IsErrOf result StoreFault.NotEmpty → IfSome (D.held disk.old) (λ held. 0 < length held) × (D.held disk.new ≡ D.held disk.old) × (D.moment disk.new ≡ D.moment disk.old) }
-        ensures fault { IsErrOf result StoreFault.DiskFault → Rose (D.faults disk.old) (D.faults disk.new) }
-        ensures fault_moment { IsErrOf result StoreFault.DiskFault → D.moment disk.old + 2 < MOMENT_END → (D.moment disk.old ≤ D.moment disk.new) × (D.moment disk.new ≤ D.moment disk.old + 2) }
-        ensures only { OnErr result ((IsErrOf result StoreFault.Full → ⊥) × (IsErrOf result StoreFault.Stopped → ⊥) × (IsErrOf result StoreFault.NoMemory → ⊥)) }
+        ensures not_empty { IsErrOf result StoreFault.NotEmpty
+            → IfSome (D.held disk.old) (λ held. 0 < length held)
+            × (D.held disk.new ≡ D.held disk.old) × (D.moment disk.new ≡ D.moment disk.old) }
+        ensures fault { IsErrOf result StoreFault.DiskFault
+            → Rose (D.faults disk.old) (D.faults disk.new) }
+        ensures fault_moment { IsErrOf result StoreFault.DiskFault
+            → D.moment disk.old + 2 < MOMENT_END → (D.moment disk.old ≤ D.moment disk.new)
+            × (D.moment disk.new ≤ D.moment disk.old + 2) }
+        ensures only { OnErr result ((IsErrOf result StoreFault.Full → ⊥)
+            × (IsErrOf result StoreFault.Stopped → ⊥) × (IsErrOf result StoreFault.NoMemory → ⊥)) }
         ensures later { D.faults disk.old ≤ D.faults disk.new }
     {
-        let Ok(len) = disk.len() else {
-            return Err(StoreFault::DiskFault);
-        };
+        let len = disk.len()?;
         if len != 0 {
             return Err(StoreFault::NotEmpty);
         }
-        let Ok(()) = disk.write_at(0, b"MUGSHOT1\0") else {
-            return Err(StoreFault::DiskFault);
-        };
-        let Ok(()) = disk.sync() else {
-            return Err(StoreFault::DiskFault);
-        };
+        disk.write_at(0, b"MUGSHOT1\0")?;
+        disk.sync()?;
         Ok(Store {
             place: 9,
             frames: 0,
@@ -139,7 +170,7 @@ impl Store {
         })
     }
 
-    /// The offset behind the last gate.
+    /// The offset after the last gate.
     pub fn place(&self) -> u64
         ensures { result ≡ self.now.place }
     {
@@ -185,7 +216,7 @@ impl Store {
     pub fn reserve(&mut self, bytes: usize) -> Result<(), NoMemory>
         ensures room { OnOk result (bytes ≤ self.new.spare) }
         ensures grows { self.old.spare ≤ self.new.spare }
-        ensures same { (self.new.place ≡ self.old.place) × (self.new.frames ≡ self.old.frames) × (self.new.inputs ≡ self.old.inputs) × (self.new.moments ≡ self.old.moments) × (self.new.stopped ≡ self.old.stopped) }
+        ensures same { IsSame self.old self.new }
     {
         let Some(size) = bytes.checked_add(5) else {
             return Err(NoMemory);
@@ -195,7 +226,7 @@ impl Store {
         Ok(())
     }
 
-    /// Adds a frame of this payload, in which there are so many inputs: the frame is written and synced before its gate is opened. After a disk fault the store is stopped.
+    /// Adds a frame of this payload, in which there are n inputs: the frame is written and synced before its gate is opened. After a disk fault the store is stopped.
     pub fn commit<D: Disk>(
         &mut self,
         disk: &mut D,
@@ -204,28 +235,38 @@ impl Store {
     ) -> Result<Ack, StoreFault>
         requires some { 0 < length payload.now }
         requires inputs_in { inputs ≤ length payload.now }
-        requires inside { self.old.stopped ≡ false → IfSome (D.held disk.old) (λ held. self.old.place ≤ length held) }
-        ensures ack { IfOk result (λ ack. (ack.inputs ≡ self.old.inputs + inputs) × (ack.moment ≡ self.old.moments + 4)) }
-        ensures counts { OnOk result ((self.new.place ≡ self.old.place + 5 + length payload.now) × (self.new.frames ≡ self.old.frames + 1) × (self.new.inputs ≡ self.old.inputs + inputs) × (self.new.moments ≡ self.old.moments + 4) × (self.new.stopped ≡ false)) }
-        ensures file { OnOk result ((frames : List (List LogItem)) (items : List LogItem) (gate : ℕ) (rest : List ℕ) → self.old.place ≡ place_behind frames → payload.now ≡ payload_of items → D.held disk.old ≡ Some (session frames gate rest)
-            → D.held disk.new ≡ Some (session (frames ++ items ∷ []) 0 (drop (5 + length payload.now) rest))) }
-        ensures still_inside { OnOk result (IfSome (D.held disk.new) (λ held. self.new.place ≤ length held)) }
+        requires inside { IsInside self.old (D.held disk.old) }
+        ensures ack { IfOk result (λ ack. (ack.inputs ≡ self.old.inputs + inputs)
+            × (ack.moment ≡ self.old.moments + 4)) }
+        ensures counts { OnOk result (HasGrown (length payload.now) inputs self.old self.new) }
+        ensures file { OnOk result
+            (AddsFrame self.old.place payload.now (D.held disk.old) (D.held disk.new)) }
+        ensures still_inside { OnOk result (IsWithin self.new.place (D.held disk.new)) }
         ensures untold { OnOk result (D.held disk.old ≡ None → D.held disk.new ≡ None) }
-        ensures moment { OnOk result (D.moment disk.old + 4 < MOMENT_END → D.moment disk.new ≡ D.moment disk.old + 4) }
+        ensures moment { OnOk result (D.moment disk.old + 4 < MOMENT_END
+            → D.moment disk.new ≡ D.moment disk.old + 4) }
         ensures room { self.old.spare ≤ self.new.spare }
 
-        ensures full { IsErrOf result StoreFault.Full → SESSION_LIMIT < self.old.place + 5 + length payload.now }
-        ensures fits { SESSION_LIMIT < self.old.place + 5 + length payload.now → self.old.stopped ≡ false → IsErrOf result StoreFault.Full }
+        ensures full { IsErrOf result StoreFault.Full
+            → SESSION_LIMIT < self.old.place + 5 + length payload.now }
+        ensures fits { SESSION_LIMIT < self.old.place + 5 + length payload.now
+            → self.old.stopped ≡ false → IsErrOf result StoreFault.Full }
         ensures stopped { IsErrOf result StoreFault.Stopped → self.old.stopped ≡ true }
         ensures stays_stopped { self.old.stopped ≡ true → IsErrOf result StoreFault.Stopped }
-        ensures fault { IsErrOf result StoreFault.DiskFault → Rose (D.faults disk.old) (D.faults disk.new) × (self.new.stopped ≡ true) }
-        ensures fault_moment { IsErrOf result StoreFault.DiskFault → D.moment disk.old + 4 < MOMENT_END → (D.moment disk.old < D.moment disk.new) × (D.moment disk.new ≤ D.moment disk.old + 4) }
-        ensures left { IsErrOf result StoreFault.DiskFault → (frames : List (List LogItem)) (items : List LogItem) (gate : ℕ) (rest : List ℕ) → gate ≢ 1 → self.old.place ≡ place_behind frames → payload.now ≡ payload_of items
-            → D.held disk.old ≡ Some (session frames gate rest) → IfSome (D.held disk.new) (IsEither frames items) }
+        ensures fault { IsErrOf result StoreFault.DiskFault
+            → Rose (D.faults disk.old) (D.faults disk.new) × (self.new.stopped ≡ true) }
+        ensures fault_moment { IsErrOf result StoreFault.DiskFault
+            → D.moment disk.old + 4 < MOMENT_END → (D.moment disk.old < D.moment disk.new)
+            × (D.moment disk.new ≤ D.moment disk.old + 4) }
+        ensures left { IsErrOf result StoreFault.DiskFault
+            → LeavesEither self.old.place payload.now (D.held disk.old) (D.held disk.new) }
         ensures memory { IsErrOf result StoreFault.NoMemory → self.old.spare < length payload.now }
         ensures not_empty { IsErrOf result StoreFault.NotEmpty → ⊥ }
-        ensures nothing { OnErr result (IsErrOf result StoreFault.DiskFault ⊎ ((D.held disk.new ≡ D.held disk.old) × (D.moment disk.new ≡ D.moment disk.old) × (D.faults disk.new ≡ D.faults disk.old)
-            × (self.new.place ≡ self.old.place) × (self.new.frames ≡ self.old.frames) × (self.new.inputs ≡ self.old.inputs) × (self.new.moments ≡ self.old.moments) × (self.new.stopped ≡ self.old.stopped))) }
+
+        // But for a fault of the disk, an error changes nothing.
+        ensures nothing { OnErr result (IsErrOf result StoreFault.DiskFault
+            ⊎ ((D.held disk.new ≡ D.held disk.old) × (D.moment disk.new ≡ D.moment disk.old)
+            × (D.faults disk.new ≡ D.faults disk.old) × IsSame self.old self.new)) }
         ensures later { D.faults disk.old ≤ D.faults disk.new }
     {
         if self.stopped {
@@ -235,9 +276,7 @@ impl Store {
         if size > SESSION_LIMIT - 5 || self.place > SESSION_LIMIT - 5 - size {
             return Err(StoreFault::Full);
         }
-        if fill(&mut self.buffer, payload).is_err() {
-            return Err(StoreFault::NoMemory);
-        }
+        fill(&mut self.buffer, payload)?;
         if write_frame(disk, self.place, &self.buffer).is_err() {
             self.stopped = true;
             return Err(StoreFault::DiskFault);

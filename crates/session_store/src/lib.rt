@@ -1,13 +1,9 @@
 //! Session files: written frame by frame, and what a stop left of one, recovered.
 #![tactic(auto)]
 
-#[cfg(test)]
-mod commit_tests;
 mod keeper;
 mod laws;
 mod recovery;
-#[cfg(test)]
-mod tests;
 
 pub use keeper::{Ack, MOMENT_END, SESSION_LIMIT, Store, StoreFault};
 pub use laws::{logs_are_recovered, recovery_is_one};

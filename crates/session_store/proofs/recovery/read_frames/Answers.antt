@@ -6,10 +6,10 @@ use Rattle.session_store.proofs.recovery.read_frames.Goals as goal
 
 pub frames-preserved : goal.frames-preserved
 frames-preserved g c =
-    let told = rw c.in-Ok-Frame.field-0-is at c.in-Ok-Frame.ensures.told in
-    let place = rw c.in-Ok-Frame.field-0-is at c.in-Ok-Frame.ensures.place in
+    let told = rw c.in-Frame.is at c.in_ok-from.ensures.told in
+    let place = rw c.in-Frame.is at c.in_ok-from.ensures.place in
     let payload : c.deref.result.now ≡ c.next.new.payload.items = c.deref.ensures.value in
-    let follows = rw (c.in-Ok-true.field-0-test, payload) at c.in-Ok-true.ensures in (
+    let follows = rw (c.if-not-branch.false, payload) at c.in_ok-read_frame.ensures in (
       c.next.ensures.held ∙ c.frames.invariant.0,
       c.next.ensures.moment ∙ c.frames.invariant.1,
       omega (arith, c.frames.invariant.2, c.next.ensures.later),

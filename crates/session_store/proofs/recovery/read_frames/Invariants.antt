@@ -1,6 +1,6 @@
 use Rattle.std.proofs.Common.{◌≡◌, ◌<◌, ◌≤◌, ◌-◌, IfSome}
 use Rattle.session_store.specs.Session.{HasHeader}
-use Rattle.session_store.specs.Steps.{AreOfFrames, SoFar}
+use Rattle.session_store.specs.inner.Steps.{AreOfFrames, SoFar}
 use Rattle.session_store.proofs.recovery.read_frames.Given as goal
 
 abbrev pub invariant-frames : goal.invariant-frames

@@ -4,8 +4,8 @@ use Rattle.session_store.specs.Keeping.{StoreState}
 use Rattle.session_store.proofs.Writes.{committed, left_behind}
 use Rattle.session_store.proofs.keeper.Store.commit.Goals as goal
 
-pub returns-then-is_err-2-clause-left : goal.returns-then-is_err-2-clause-left
-returns-then-is_err-2-clause-left g c = λ fault frames items gate rest shut place payload is.
+pub returns-then-is_err-clause-left : goal.returns-then-is_err-clause-left
+returns-then-is_err-clause-left g c = λ fault frames items gate rest shut place payload is.
     let filled : c.deref.result.now ≡ frame c.args.payload.now ++ 0 ∷ [] = c.deref.ensures.value ∙ search rules in
     let here : c.self.inside.place ≡ c.args.self.now.place = ap (λ (s : StoreState). s.place) c.self.view_is in
     left_behind frames items gate rest c.args.payload.now c.deref.result.now c.self.inside.place _ _ shut (here ∙ place) payload filled is (search rules)
