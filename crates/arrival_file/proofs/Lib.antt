@@ -1,9 +1,4 @@
 pub mod Splitting
-pub mod Stops
-pub mod Grouping
-pub mod Told
-pub mod Entries
-pub mod Fronts
-pub mod Stuck
-pub mod Unique
-pub mod Bounds
+pub mod FieldValues
+pub mod LinesRead
+pub mod TurnRanges

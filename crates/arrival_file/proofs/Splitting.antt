@@ -1,87 +1,120 @@
--- A line splits in one way.
-use Rattle.std.proofs.Common.{◌≡◌, ◌≢◌, ℕ, inl, inr, Bool, true, not, ◌&&◌, List, [], ◌∷◌, ◌++◌, codes, refl, sym, ◌∙◌, ap, subst, arith, append_assoc}
-use Rattle.std.proofs.lemmas.List.Elements.{All-head, All-tail, All-nil, All-cons}
+-- A line is split at its first space and its line feed.
+use Rattle.std.proofs.Common.{◌≡◌, ◌≢◌, ℕ, ◌⊎◌, inl, inr, true, false, ◌==◌, List, [], ◌∷◌, ◌++◌, Option, None, Some, Ok, Err, option_map, ok_or, refl, ◌∙◌, ap, arith}
+use Rattle.std.proofs.lemmas.List.{append-nil}
+use Rattle.std.proofs.lemmas.List.Elements.{All-head, All-tail}
+use Rattle.std.proofs.lemmas.Bool.{cond-true, cond-false}
 use Rattle.std.proofs.lemmas.Bool.Decides.{nat_tests}
-use Rattle.arrival_file.specs.Format.{EndsField, HasLaterWord, HasLine, HasNoLine, IsField, IsLaterWord, line_of}
-use Rattle.arrival_file.specs.Steps.{Splits, is_end}
+use Rattle.arrival_file.specs.declared.arrival.ArrivalKind.TheVariants.{Form}
+use Rattle.arrival_file.specs.declared.stop.Stop.TheVariants.{Breaks, NotBuilt}
+use Rattle.arrival_file.specs.Lines.{Line, is_end, is_later, line_of, longer, whole_line, word_of}
+use Rattle.arrival_file.specs.inner.Split.{EndsField, HasNone, HasOtherCount, IsField}
 
-abbrev pub IsPlain : ℕ → Type 0
+abbrev IsPlain : ℕ → Type 0
 IsPlain b = (b ≢ 32) × (b ≢ 10)
 
-abbrev is_field : List ℕ → Bool
-is_field [] = true
-is_field (b ∷ bs) = not (is_end b) && is_field bs
+is_no : (x y : ℕ) → x ≢ y → (x == y) ≡ false
+is_no x y other = grind (arith, nat_tests)
 
-is_plain : (b : ℕ) (t : Bool) → (not (is_end b) && t) ≡ true → IsPlain b × (t ≡ true)
-is_plain b t h = (((λ e. grind (arith, nat_tests)), (λ e. grind (arith, nat_tests))), grind (arith, nat_tests))
+ends_at : (b : ℕ) → (b ≡ 32) ⊎ (b ≡ 10) → is_end b ≡ true
+ends_at b ends = grind (arith, nat_tests)
 
--- a literal is a field by its test
-pub field_by_test : (bytes : List ℕ) → is_field bytes ≡ true → IsField bytes
-field_by_test [] h = All-nil IsPlain
-field_by_test (b ∷ bs) h = let both = is_plain b (is_field bs) h in All-cons IsPlain b bs both.0 (field_by_test bs both.1)
+goes_on : (b : ℕ) → IsPlain b → is_end b ≡ false
+goes_on b plain = let other = plain.0 in let same_line = plain.1 in grind (arith, nat_tests)
 
-pub later_field : (word : List ℕ) → IsLaterWord word → IsField word
-later_field word (inl e) = subst IsField (sym e) (field_by_test (codes "resource") refl)
-later_field word (inr (inl e)) = subst IsField (sym e) (field_by_test (codes "event") refl)
-later_field word (inr (inr (inl e))) = subst IsField (sym e) (field_by_test (codes "input") refl)
-later_field word (inr (inr (inr (inl e)))) = subst IsField (sym e) (field_by_test (codes "timer") refl)
-later_field word (inr (inr (inr (inr (inl e))))) = subst IsField (sym e) (field_by_test (codes "reply") refl)
-later_field word (inr (inr (inr (inr (inr e))))) = subst IsField (sym e) (field_by_test (codes "fail") refl)
+-- ---- the word
 
-goes_on : (y : ℕ) (b m n : List ℕ) → IsField (y ∷ b) → EndsField m → m ≡ (y ∷ b) ++ n → ⊥
-goes_on y b m n field ends e =
-    let here : EndsField (y ∷ (b ++ n)) = subst EndsField e ends in
-    let plain = All-head IsPlain y b field in
-    elim here [ inl space ↦ plain.0 space | inr feed ↦ plain.1 feed ]
+pub word_of-append : (w r : List ℕ) → IsField w → EndsField r → word_of (w ++ r) ≡ w
+unfolding word_of
+word_of-append [] [] plain ends = refl
+word_of-append [] (b ∷ r) plain ends = cond-true _ _ _ (ends_at b ends)
+word_of-append (x ∷ w) r plain ends =
+    cond-false _ _ _ (goes_on x (All-head IsPlain x w plain)) ∙ ap (λ (l : List ℕ). x ∷ l) (word_of-append w r (All-tail IsPlain x w plain) ends)
 
--- the bytes up to the first space or line feed are one word
-pub same_word : (a b m n : List ℕ) → IsField a → IsField b → EndsField m → EndsField n → a ++ m ≡ b ++ n → (a ≡ b) × (m ≡ n)
-same_word [] [] m n fa fb em en e = (refl, e)
-same_word [] (y ∷ b) m n fa fb em en e = absurd (goes_on y b m n fb em e)
-same_word (x ∷ a) [] m n fa fb em en e = absurd (goes_on x a n m fa en (sym e))
-same_word (x ∷ a) (y ∷ b) m n fa fb em en e =
-    let heads : x ≡ y = cc in
-    let tails : a ++ m ≡ b ++ n = cc in
-    let both = same_word a b m n (All-tail IsPlain x a fa) (All-tail IsPlain y b fb) em en tails in
-    ((λ i. heads i ∷ both.0 i), both.1)
+-- ---- the line
 
--- a line, with what stands behind it
-pub line_parts : (w f m : List ℕ) → line_of w f ++ m ≡ w ++ 32 ∷ (f ++ 10 ∷ m)
-line_parts w f m = append_assoc w (32 ∷ (f ++ 10 ∷ [])) m ∙ ap (λ (l : List ℕ). w ++ 32 ∷ l) (append_assoc f (10 ∷ []) m)
+-- a line with these bytes in front of its word
+abbrev pub behind : List ℕ → Line → Line
+behind w line = record { word = w ++ line.word; fields = line.fields; after = line.after }
 
-pub same_field : (f g m n : List ℕ) → IsField f → IsField g → EndsField n → f ++ 10 ∷ m ≡ g ++ n → (f ≡ g) × (10 ∷ m ≡ n)
-same_field f g m n ff fg en e = same_word f g (10 ∷ m) n ff fg (inr refl) en e
+longer-behind : (x : ℕ) (w : List ℕ) (line : Option Line) → x ≢ 32 → option_map (longer x) (option_map (behind w) line) ≡ option_map (behind (x ∷ w)) line
+longer-behind x w None other = refl
+longer-behind x w (Some line) other = ap Some (cond-false _ _ _ (is_no x 32 other))
 
-pub same_line : (w f m w' f' m' : List ℕ) → IsField w → IsField f → IsField w' → IsField f' → line_of w f ++ m ≡ line_of w' f' ++ m' → (w ≡ w') × (f ≡ f') × (m ≡ m')
-same_line w f m w' f' m' fw ff fw' ff' e =
-    let words = same_word w w' (32 ∷ (f ++ 10 ∷ m)) (32 ∷ (f' ++ 10 ∷ m')) fw fw' (inl refl) (inl refl) (sym (line_parts w f m) ∙ e ∙ line_parts w' f' m') in
-    let rests : f ++ 10 ∷ m ≡ f' ++ 10 ∷ m' = let h = words.1 in cc in
-    let fields = same_word f f' (10 ∷ m) (10 ∷ m') ff ff' (inr refl) (inr refl) rests in
-    (words.0, fields.0, (let h = fields.1 in cc))
+behind-nil : (line : Option Line) → line ≡ option_map (behind []) line
+behind-nil None = refl
+behind-nil (Some line) = refl
 
--- no line feed behind the field
-pub no_feed : (bytes rest f end : List ℕ) → bytes ≡ 32 ∷ rest → rest ≡ f ++ end → IsField f → EndsField end → ((more : List ℕ) → end ≢ 10 ∷ more) → (field more : List ℕ) → IsField field → bytes ≢ 32 ∷ (field ++ 10 ∷ more)
-no_feed bytes rest f end space whole ff ends none field more plain e =
-    let tail : rest ≡ field ++ 10 ∷ more = cc in
-    none more (sym (same_field field f more end plain ff ends (sym tail ∙ whole)).1)
+pub line_of-append : (w r : List ℕ) → IsField w → line_of (w ++ r) ≡ option_map (behind w) (line_of r)
+unfolding line_of
+line_of-append [] r plain = behind-nil (line_of r)
+line_of-append (x ∷ w) r plain =
+    let here = All-head IsPlain x w plain in
+    cond-false _ _ _ (is_no x 10 here.1) ∙ ap (option_map (longer x)) (line_of-append w r (All-tail IsPlain x w plain)) ∙ longer-behind x w (line_of r) here.0
 
--- a first word of another kind
-pub not_later : (rest word behind : List ℕ) → IsField word → EndsField behind → rest ≡ word ++ behind → (IsLaterWord word → ⊥) → HasLaterWord rest → ⊥
-not_later rest word behind field ends is none later =
-    none (subst IsLaterWord (same_word later.word word later.more behind (later_field later.word later.later) field later.ends ends (sym later.is ∙ is)).0 later.later)
+line_of-space : (r : List ℕ) → line_of (32 ∷ r) ≡ option_map (longer 32) (line_of r)
+unfolding line_of
+line_of-space r = refl
 
--- a line from its parts
-pub line_there : (rest word behind field more : List ℕ) → rest ≡ word ++ behind → IsField field → behind ≡ 32 ∷ (field ++ 10 ∷ more) → HasLine rest word field more
-line_there rest word behind field more is plain parts =
-    record { field_is = plain; is = is ∙ ap (λ (l : List ℕ). word ++ l) parts ∙ sym (line_parts word field more) }
+line_of-feed : (r : List ℕ) → line_of (10 ∷ r) ≡ Some (record { word = []; fields = []; after = r })
+unfolding line_of
+line_of-feed r = refl
 
--- no line without a field between a space and a line feed
-pub no_line : (rest word behind : List ℕ) → IsField word → EndsField behind → rest ≡ word ++ behind → ((field more : List ℕ) → IsField field → behind ≢ 32 ∷ (field ++ 10 ∷ more)) → (w : List ℕ) → IsField w → HasNoLine rest w
-no_line rest word behind plain ends is none w plain_w field more has =
-    let words = same_word w word (32 ∷ (field ++ 10 ∷ more)) behind plain_w plain (inl refl) ends (sym (line_parts w field more) ∙ sym has.is ∙ is) in
-    none field more has.field_is (sym words.1)
+line_of-nil : line_of [] ≡ None
+unfolding line_of
+line_of-nil = refl
 
--- the line is of one word
-pub other_word : (rest word field more w : List ℕ) → Splits rest word field more → IsField w → word ≢ w → HasNoLine rest w
-other_word rest word field more w splits plain other f m has =
-    other (same_line word field more w f m splits.word_is splits.has.field_is plain has.field_is (sym splits.has.is ∙ has.is)).0
+-- ---- the first line of these bytes, by its word
+
+module _ (rest word r : List ℕ) (whole : rest ≡ word ++ r) (plain : IsField word) (ends : EndsField r) where
+  the_word : word_of rest ≡ word
+  the_word = ap word_of whole ∙ word_of-append word r plain ends
+
+  pub later_line : is_later word ≡ true → whole_line rest ≡ Err NotBuilt
+  later_line later = cond-true _ _ _ (ap is_later the_word ∙ later)
+
+  pub other_line : is_later word ≡ false → (line : Option Line) → line_of r ≡ line → whole_line rest ≡ ok_or (option_map (behind word) line) (Breaks Form)
+  other_line other line is =
+      cond-false _ _ _ (ap is_later the_word ∙ other) ∙ ap (λ (l : Option Line). ok_or l (Breaks Form)) (ap line_of whole ∙ line_of-append word r plain ∙ ap (option_map (behind word)) is)
+
+-- no space comes after the word
+pub no_field : (rest word r : List ℕ) → rest ≡ word ++ r → IsField word → EndsField r → is_later word ≡ false → ((more : List ℕ) → r ≢ 32 ∷ more) → HasNone (whole_line rest) (Breaks Form)
+no_field rest word [] whole plain ends other none = inl (other_line rest word [] whole plain ends other None line_of-nil)
+no_field rest word (b ∷ r) whole plain (inl space) other none = absurd (none r (ap (λ (x : ℕ). x ∷ r) space))
+no_field rest word (b ∷ r) whole plain (inr feed) other none =
+    let line : Line = record { word = []; fields = []; after = r } in
+    let is : line_of (b ∷ r) ≡ Some line = ap (λ (x : ℕ). line_of (x ∷ r)) feed ∙ line_of-feed r in
+    inr (refl, (behind word line, other_line rest word (b ∷ r) whole plain (inr feed) other (Some line) is, record { other = λ field same. cc }))
+
+-- a space, a field and what comes after it
+line_of-field : (r rest field end : List ℕ) → r ≡ 32 ∷ rest → rest ≡ field ++ end → IsField field → line_of r ≡ option_map (longer 32) (option_map (behind field) (line_of end))
+line_of-field r rest field end space parts plain =
+    ap line_of space ∙ line_of-space rest ∙ ap (option_map (longer 32)) (ap line_of parts ∙ line_of-append field end plain)
+
+-- two fields or more
+others : (word field : List ℕ) (line : Option Line) (first : Line) → option_map (behind word) (option_map (longer 32) (option_map (behind field) (option_map (longer 32) line))) ≡ Some first → HasOtherCount first
+others word field None first is = absurd (cc)
+others word field (Some line) first is = record { other = λ f same. let fields : (field ++ []) ∷ line.word ∷ line.fields ≡ first.fields = cc in cc }
+
+-- no line feed comes after the one field
+module _ (rest word r after_space field : List ℕ) (whole : rest ≡ word ++ r) (plain : IsField word) (ends : EndsField r) (other : is_later word ≡ false) (space : r ≡ 32 ∷ after_space) (plain_field : IsField field) where
+  private_line : (end : List ℕ) → after_space ≡ field ++ end → (line : Option Line) → line_of end ≡ line
+      → whole_line rest ≡ ok_or (option_map (behind word) (option_map (longer 32) (option_map (behind field) line))) (Breaks Form)
+  private_line end parts line is =
+      other_line rest word r whole plain ends other (option_map (longer 32) (option_map (behind field) line))
+      (line_of-field r after_space field end space parts plain_field ∙ ap (λ (l : Option Line). option_map (longer 32) (option_map (behind field) l)) is)
+
+  more_fields : (end : List ℕ) (line : Option Line) → after_space ≡ field ++ end → line_of end ≡ option_map (longer 32) line → HasNone (whole_line rest) (Breaks Form)
+  more_fields end None parts is = inl (private_line end parts None is)
+  more_fields end (Some line) parts is =
+      let found : Line = behind word (longer 32 (behind field (longer 32 line))) in
+      inr (refl, (found, private_line end parts (Some (longer 32 line)) is, others word field (Some line) found refl))
+
+  pub no_feed : (end : List ℕ) → after_space ≡ field ++ end → EndsField end → ((more : List ℕ) → end ≢ 10 ∷ more) → HasNone (whole_line rest) (Breaks Form)
+  no_feed [] parts ends none = inl (private_line [] parts None line_of-nil)
+  no_feed (b ∷ more) parts (inl again) none = more_fields (b ∷ more) (line_of more) parts (ap (λ (x : ℕ). line_of (x ∷ more)) again ∙ line_of-space more)
+  no_feed (b ∷ more) parts (inr feed) none = absurd (none more (ap (λ (x : ℕ). x ∷ more) feed))
+
+  pub one_line : (end after : List ℕ) → after_space ≡ field ++ end → end ≡ 10 ∷ after → whole_line rest ≡ Ok (record { word = word; fields = field ∷ []; after = after })
+  one_line end after parts feed =
+      private_line end parts (Some (record { word = []; fields = []; after = after })) (ap line_of feed ∙ line_of-feed after)
+      ∙ (λ i. Ok (record { word = append-nil word i; fields = append-nil field i ∷ []; after = after }))

@@ -1,4 +1,4 @@
+pub mod Lines
 pub mod Format
-pub mod Telling
-pub mod Steps
 pub mod Ranges
+pub mod inner

@@ -1,29 +1,29 @@
 // A line, split into its word and its one field.
-ghost use Rattle.std.specs.Prelude.{◌≡◌, ◌↔◌, ◌≢◌, ℕ, List, ◌∷◌, ◌++◌, IsTrue, MatchOption, MatchResult};
-ghost use Rattle.std.specs.List.{position_or_len};
-ghost use Rattle.arrival_file.specs.Format.{EndsField, IsField, IsLaterWord};
-ghost use Rattle.arrival_file.specs.Steps.{Splits, SplitsNot, is_end};
+ghost use Rattle.std.specs.Prelude.{◌≡◌, ◌≢◌, ◌<◌, ◌+◌, ℕ, List, ◌∷◌, ◌++◌, length, IfOk, MatchOption};
+ghost use Rattle.std.specs.Str.{bytes_eq};
+ghost use Rattle.arrival_file.specs.Lines.{is_later};
+ghost use Rattle.arrival_file.specs.inner.Split.{EndsField, IsField, Splits};
 
 use crate::ArrivalKind;
 use crate::stop::Stop;
 
-// A line's word, its one field, and the bytes behind its line feed.
+// A line's word, its one field, and the bytes after its line feed.
 #[derive(Clone, Copy)]
 pub struct Fields<'a> {
     pub word: &'a [u8],
     pub field: &'a [u8],
-    pub more: &'a [u8],
+    pub after: &'a [u8],
 }
 
 pub fn is_word(bytes: &[u8], word: &[u8]) -> bool
-    ensures { IsTrue result ↔ (bytes.now ≡ word.now) }
+    ensures { result ≡ bytes_eq bytes.now word.now }
 {
     bytes == word
 }
 
 // Whether lines of this word are of a kind that isn't read yet.
 fn is_later(word: &[u8]) -> bool
-    ensures { IsTrue result ↔ IsLaterWord word.now }
+    ensures { result ≡ is_later word.now }
 {
     is_word(word, b"resource")
         || is_word(word, b"event")
@@ -46,9 +46,10 @@ fn split_word(bytes: &[u8]) -> (&[u8], &[u8])
     bytes.split_at(len)
 }
 
-// The bytes behind this first one.
+// The bytes after this first one.
 fn past(bytes: &[u8], first: u8) -> Option<&[u8]>
-    ensures { MatchOption result ((more : List ℕ) → bytes.now ≢ first ∷ more) (λ more. bytes.now ≡ first ∷ more.now) }
+    ensures { MatchOption result ((more : List ℕ) → bytes.now ≢ first ∷ more)
+        (λ more. bytes.now ≡ first ∷ more.now) }
 {
     match bytes {
         [b, more @ ..] if *b == first => Some(more),
@@ -56,30 +57,21 @@ fn past(bytes: &[u8], first: u8) -> Option<&[u8]>
     }
 }
 
-// The field behind a space and before a line feed, and the bytes behind it.
-fn split_field(bytes: &[u8]) -> Option<(&[u8], &[u8])>
-    ensures { MatchOption result ((field more : List ℕ) → IsField field → bytes.now ≢ 32 ∷ (field ++ 10 ∷ more)) (λ pair. IsField pair.0.now × (bytes.now ≡ 32 ∷ (pair.0.now ++ 10 ∷ pair.1.now))) }
-{
-    let Some(rest) = past(bytes, b' ') else {
-        return None;
-    };
-    let (field, end) = split_word(rest);
-    let Some(more) = past(end, b'\n') else {
-        return None;
-    };
-    Some((field, more))
-}
-
 // Splits a line, unless its word is of a kind that isn't read yet.
 pub fn split_line(rest: &[u8]) -> Result<Fields<'_>, Stop>
-    ensures { MatchResult result (λ line. Splits rest.now line.word.now line.field.now line.more.now) (λ stop. SplitsNot rest.now stop) }
+    ensures splits { Splits result rest.now }
+    ensures shorter { IfOk result (λ line. length line.field.now + length line.after.now < length rest.now) }
 {
     let (word, behind) = split_word(rest);
     if is_later(word) {
         return Err(Stop::NotBuilt);
     }
-    match split_field(behind) {
-        Some((field, more)) => Ok(Fields { word, field, more }),
-        None => Err(Stop::Breaks(ArrivalKind::Form)),
-    }
+    let Some(rest) = past(behind, b' ') else {
+        return Err(Stop::Breaks(ArrivalKind::Form));
+    };
+    let (field, end) = split_word(rest);
+    let Some(after) = past(end, b'\n') else {
+        return Err(Stop::Breaks(ArrivalKind::Form));
+    };
+    Ok(Fields { word, field, after })
 }

@@ -2,15 +2,12 @@
 #![tactic(auto)]
 
 mod arrival;
-mod entry;
 mod fields;
-mod laws;
+mod limits;
 mod reading;
+mod rows;
 mod stop;
-#[cfg(test)]
-mod tests;
-mod turns;
 
 pub use arrival::{Arrival, ArrivalFault, ArrivalKind, Arrivals, Turn};
-pub use laws::{an_answer_is_one, arrivals_are_bounded};
-pub use reading::{FILE_LIMIT, read_arrivals};
+pub use limits::{FILE_LIMIT, WORD_END};
+pub use reading::read_arrivals;

@@ -1,29 +1,32 @@
 // An arrival file from its bytes, once from front to back.
-ghost use Rattle.std.specs.Prelude.{◌≡◌, ◌↔◌, ◌++◌, ℕ, List, IfErr, IfOk, IsTrue, MatchResult, codes};
+ghost use Rattle.std.specs.Prelude.{◌≡◌, ◌≤◌, length, Ok, IfOk, IsTrue, MatchResult, None, option_to_list};
+ghost use Rattle.std.specs.Str.{IsAscii};
 ghost use Rattle.mug_text.specs.Text.{IsText};
-ghost use Rattle.arrival_file.specs.Format.{AreArrivals, HasLine, Header, IsBase, Nothing, header};
-ghost use Rattle.arrival_file.specs.Steps.{IsNoBase, IsSerialised, StopsBehind};
-ghost use Rattle.arrival_file.specs.Telling.{Refuses};
+ghost use Rattle.url.specs.Parser.{parse_url};
+ghost use Rattle.arrival_file.specs.Lines.{and_then, whole_line};
+ghost use Rattle.arrival_file.specs.Format.{Answers, arrivals_of, base_row, header_row, is_serialised, url};
+ghost use Rattle.arrival_file.specs.Ranges.{InRanges, IsShortText};
+ghost use Rattle.arrival_file.specs.inner.Split.{Gives};
+ghost use Rattle.arrival_file.specs.declared.stop.Stop.TheVariants as stop;
 
 use crate::fields::{is_word, split_line};
+use crate::limits::FILE_LIMIT;
+use crate::rows::read_lines;
 use crate::stop::{Stop, at_line};
-use crate::turns::read_turns;
-use crate::{ArrivalFault, ArrivalKind, Arrivals};
-use mug_text::{JText, Listed, TextFault};
+use crate::{Arrival, ArrivalFault, ArrivalKind, Arrivals};
+use mug_text::{JText, Listed, NoMemory, TextFault};
 use std::alloc::Global;
 use std::str;
 use url::{ParseError, Url};
 
-/// The most bytes of an arrival file, 64 MiB.
-pub const FILE_LIMIT: usize = 67_108_864;
-
-// The bytes behind the first line.
+// The bytes after the first line.
 fn read_header(bytes: &[u8]) -> Result<&[u8], Stop>
-    ensures { MatchResult result (λ rest. bytes.now ≡ header ++ rest.now) (λ stop. StopsBehind Nothing bytes.now stop) }
+    ensures gives { Gives (λ rest. rest.now) result (and_then (whole_line bytes.now) header_row) }
+    ensures shorter { IfOk result (λ rest. length rest.now ≤ length bytes.now) }
 {
     let line = split_line(bytes)?;
     if is_word(line.word, b"mugshot-arrivals") && is_word(line.field, b"1") {
-        Ok(line.more)
+        Ok(line.after)
     } else {
         Err(Stop::Breaks(ArrivalKind::Form))
     }
@@ -31,7 +34,9 @@ fn read_header(bytes: &[u8]) -> Result<&[u8], Stop>
 
 // Whether the text is a URL's serialisation; an error is the want of memory.
 fn is_serialised(alloc: Global, text: &str) -> Result<bool, Stop>
-    ensures { MatchResult result (λ is. IsTrue is ↔ IsSerialised text.now) (λ stop. stop ≡ Stop.NoMemory) }
+    ensures test { MatchResult result (λ is. is ≡ is_serialised text.now (parse_url None text.now))
+        (λ e. e ≡ stop.NoMemory) }
+    ensures ascii { IfOk result (λ is. IsTrue is → IsAscii text.now) }
 {
     match Url::parse(alloc, text) {
         Ok(url) => Ok(url.as_str() == text),
@@ -40,9 +45,10 @@ fn is_serialised(alloc: Global, text: &str) -> Result<bool, Stop>
     }
 }
 
-// The text of a base.
-fn base_text(alloc: Global, field: &[u8]) -> Result<JText, Stop>
-    ensures { MatchResult result (λ base. IsBase field.now × IsText field.now base) (λ stop. IsNoBase field.now stop) }
+// The text of a URL.
+fn url_text(alloc: Global, field: &[u8]) -> Result<JText, Stop>
+    ensures gives { Gives (λ text. text) result (url field.now) }
+    ensures text { IfOk result (λ text. IsText field.now text) }
 {
     let Ok(text) = str::from_utf8(field) else {
         return Err(Stop::Breaks(ArrivalKind::Url));
@@ -57,22 +63,36 @@ fn base_text(alloc: Global, field: &[u8]) -> Result<JText, Stop>
     }
 }
 
-// The base, and the bytes behind its line.
+// The base, and the bytes after its line.
 fn read_base(alloc: Global, rest: &[u8]) -> Result<(JText, &[u8]), Stop>
-    ensures { MatchResult result (λ read. (base : List ℕ) × HasLine rest.now (codes "base") base read.1.now × IsBase base × IsText base read.0) (λ stop. StopsBehind Header rest.now stop) }
+    ensures gives { Gives (λ read. (read.0, read.1.now)) result
+        (and_then (whole_line rest.now) base_row) }
+    ensures text { IfOk result (λ read. IsShortText (length rest.now) read.0) }
+    ensures shorter { IfOk result (λ read. length read.1.now ≤ length rest.now) }
 {
     let line = split_line(rest)?;
     if !is_word(line.word, b"base") {
         return Err(Stop::Breaks(ArrivalKind::Form));
     }
-    let base = base_text(alloc, line.field)?;
-    Ok((base, line.more))
+    let base = url_text(alloc, line.field)?;
+    Ok((base, line.after))
+}
+
+// The turns, of which there is one at most.
+fn turns_of(alloc: Global, so_far: Option<Arrival>) -> Result<Listed<Arrival>, NoMemory>
+    ensures { IfOk result (λ turns. turns ≡ option_to_list so_far) }
+{
+    let mut turns = Listed::new(alloc);
+    if let Some(arrival) = so_far {
+        turns.push(arrival)?;
+    }
+    Ok(turns)
 }
 
 /// Reads an arrival file.
 pub fn read_arrivals(alloc: Global, bytes: &[u8]) -> Result<Arrivals, ArrivalFault>
-    ensures ok { IfOk result (λ arrivals. AreArrivals bytes.now arrivals) }
-    ensures refused { IfErr result (λ fault. Refuses fault bytes.now) }
+    ensures answers { Answers result bytes.now }
+    ensures ranges { IfOk result InRanges }
 {
     if bytes.len() > FILE_LIMIT {
         return Err(ArrivalFault::Line {
@@ -80,17 +100,8 @@ pub fn read_arrivals(alloc: Global, bytes: &[u8]) -> Result<Arrivals, ArrivalFau
             kind: ArrivalKind::Size,
         });
     }
-    let rest = match read_header(bytes) {
-        Ok(rest) => rest,
-        Err(stop) => return Err(at_line(stop, 1)),
-    };
-    let (base, rest) = match read_base(alloc, rest) {
-        Ok(read) => read,
-        Err(stop) => return Err(at_line(stop, 2)),
-    };
-    let turns = read_turns(alloc, rest)?;
-    Ok(Arrivals {
-        base,
-        turns: Listed::of(turns),
-    })
+    let rest = read_header(bytes).map_err(|stop| at_line(stop, 1))?;
+    let (base, rest) = read_base(alloc, rest).map_err(|stop| at_line(stop, 2))?;
+    let turns = turns_of(alloc, read_lines(alloc, rest)?)?;
+    Ok(Arrivals { base, turns })
 }

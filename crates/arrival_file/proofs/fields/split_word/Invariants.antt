@@ -1,5 +1,5 @@
 use Rattle.std.proofs.Common.{length, take, ◌-◌, ◌≤◌}
-use Rattle.arrival_file.specs.Format.{IsField}
+use Rattle.arrival_file.specs.inner.Split.{IsField}
 use Rattle.arrival_file.proofs.fields.split_word.Given as goal
 
 abbrev pub invariant-loop-len : goal.invariant-loop-len
