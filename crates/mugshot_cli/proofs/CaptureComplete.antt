@@ -1,14 +1,16 @@
 -- Where nothing fails, `capture` of a finished run whose frames fit is done, or finds no memory.
-use Rattle.std.proofs.Common.{◌≡◌, inl, inr, ℕ, ◌<◌, ◌≤◌, List, [], IfSome, refl, sym, ◌∙◌, subst, arith, length}
+use Rattle.std.proofs.Common.{◌≡◌, inl, inr, ℕ, ◌<◌, ◌≤◌, List, [], IfSome, Ok, Err, refl, sym, ◌∙◌, subst, arith, length}
 use Rattle.mug_text.specs.Text.{StopsAt}
 use Rattle.mug_text.specs.declared.limits.TheConstants.{PAGE_LIMIT}
 use Rattle.mug_text.proofs.Texts.{bytes_back, text_or_stop, well_formed}
-use Rattle.arrival_file.specs.Format.{AreArrivals, BreaksAt, IsNotBuiltAt}
+use Rattle.arrival_file.specs.Format.{arrivals_of}
+use Rattle.arrival_file.specs.declared.arrival.ArrivalFault.TheVariants as arrival_fault
 use Rattle.arrival_file.specs.declared.arrival.Arrivals.{Arrivals}
-use Rattle.arrival_file.proofs.Unique.{read_built, read_unbroken, same_arrivals}
 use Rattle.input_log.specs.declared.item.LogItem.TheVariants.{Head}
 use Rattle.session_store.specs.declared.keeper.StoreFault.TheVariants as store_fault
-use Rattle.capture_engine.specs.Grouping.{frames_of}
+use Rattle.input_log.specs.declared.item.LogItem.{LogItem}
+use Rattle.capture_engine.specs.Frames.{AreFramesOf}
+use Rattle.capture_engine.proofs.Recordings.{one_frames}
 use Rattle.capture_engine.specs.declared.recorder.CaptureFault.TheVariants as fault
 use Rattle.mugshot_cli.specs.Capturing.{CaptureDid, DidRun, IsOtherPage, RunDid}
 use Rattle.mugshot_cli.specs.Outcome.{of_capture, status_of}
@@ -32,15 +34,20 @@ use Rattle.mugshot_cli.proofs.ThinPage.Statements.{same_page}
 
 module _ (steps : ℕ) (before after : Outside) (can : CanCapture steps before after) where
   -- the run that was recorded is this one
-  the_run : (outcome : RunOutcome) → DidRun outcome steps before after.shows
-      → RunDid outcome steps (plain steps can.statements can.given.turns) (frames_of (Head can.given.base steps can.bytes) (plain steps can.statements can.given.turns).inputs) before.shows after.shows
+  the_run : (outcome : RunOutcome) → DidRun outcome steps before after.shows → RunDid outcome steps (plain steps can.statements can.given.turns) can.frames before.shows after.shows
   the_run outcome did =
-      let same_bytes : can.bytes ≡ did.bytes = told (λ b. b ≡ did.bytes) before.page can.bytes can.page_is did.page_is in
-      let same_statements : did.statements ≡ can.statements = same_page can.bytes did.statements can.statements (subst (λ (l : List ℕ). IsThin l did.statements) (sym same_bytes) did.page.thin) can.page.thin in
-      let same_given : did.given ≡ can.given = same_arrivals can.file did.given can.given (told (λ b. AreArrivals b did.given) before.arrivals can.file can.file_is did.arrivals_are) can.are in
-      subst (λ (b : List ℕ). RunDid outcome steps (plain steps can.statements can.given.turns) (frames_of (Head can.given.base steps b) (plain steps can.statements can.given.turns).inputs) before.shows after.shows) (sym same_bytes)
-      (subst (λ (g : Arrivals). RunDid outcome steps (plain steps can.statements g.turns) (frames_of (Head g.base steps did.bytes) (plain steps can.statements g.turns).inputs) before.shows after.shows) same_given
-      (subst (λ (s : List Statement). RunDid outcome steps (plain steps s did.given.turns) (frames_of (Head did.given.base steps did.bytes) (plain steps s did.given.turns).inputs) before.shows after.shows) same_statements did.did))
+      let same_bytes : did.bytes ≡ can.bytes = sym (told (λ b. b ≡ did.bytes) before.page can.bytes can.page_is did.page_is) in
+      let same_statements : did.statements ≡ can.statements = same_page can.bytes did.statements can.statements (subst (λ (l : List ℕ). IsThin l did.statements) same_bytes did.page.thin) can.page.thin in
+      let read : arrivals_of can.file ≡ Ok did.given = told (λ b. arrivals_of b ≡ Ok did.given) before.arrivals can.file can.file_is did.arrivals_are in
+      let same_given : did.given ≡ can.given = let other = can.are in cc in
+      let are : AreFramesOf (Head can.given.base steps can.bytes) (plain steps can.statements can.given.turns).inputs did.frames =
+      subst (λ (b : List ℕ). AreFramesOf (Head can.given.base steps b) (plain steps can.statements can.given.turns).inputs did.frames) same_bytes
+      (subst (λ (g : Arrivals). AreFramesOf (Head g.base steps did.bytes) (plain steps can.statements g.turns).inputs did.frames) same_given
+      (subst (λ (s : List Statement). AreFramesOf (Head did.given.base steps did.bytes) (plain steps s did.given.turns).inputs did.frames) same_statements did.frames_are)) in
+      let same_frames : did.frames ≡ can.frames = one_frames (Head can.given.base steps can.bytes) (plain steps can.statements can.given.turns).inputs did.frames can.frames are can.frames_are in
+      subst (λ (f : List (List LogItem)). RunDid outcome steps (plain steps can.statements can.given.turns) f before.shows after.shows) same_frames
+      (subst (λ (g : Arrivals). RunDid outcome steps (plain steps can.statements g.turns) did.frames before.shows after.shows) same_given
+      (subst (λ (s : List Statement). RunDid outcome steps (plain steps s did.given.turns) did.frames before.shows after.shows) same_statements did.did))
 
   no_stop : (at : ℕ) → StopsAt can.bytes at → ⊥
   no_stop at stops = text_or_stop stops can.text.units (well_formed can.text.text) (bytes_back can.text.text)
@@ -59,9 +66,11 @@ module _ (steps : ℕ) (before after : Outside) (can : CanCapture steps before a
   done_or_starved (capture.Page page.NoMemory) did = inr refl
   done_or_starved (capture.Arrivals file.ReadFault) did = absurd (can.arrivals_quiet did.3.0)
   done_or_starved (capture.Arrivals (file.Line line kind)) did =
-      absurd (read_unbroken can.file can.given line kind can.are (told (λ b. BreaksAt b line kind) before.arrivals can.file can.file_is did.3))
+      let broken : arrivals_of can.file ≡ Err (arrival_fault.Line line kind) = told (λ b. arrivals_of b ≡ Err (arrival_fault.Line line kind)) before.arrivals can.file can.file_is did.3 in
+      let read = can.are in absurd (cc)
   done_or_starved (capture.Arrivals file.NotBuilt) did =
-      let at = told (λ b. (line : ℕ) × IsNotBuiltAt b line) before.arrivals can.file can.file_is did.3 in absurd (read_built can.file can.given at.0 can.are at.1)
+      let at = told (λ b. (line : ℕ) × (arrivals_of b ≡ Err (arrival_fault.NotBuilt line))) before.arrivals can.file can.file_is did.3 in
+      let unbuilt = at.1 in let read = can.are in absurd (cc)
   done_or_starved (capture.Arrivals file.NoMemory) did = inr refl
   done_or_starved (capture.Ran ran.Done) did = inl refl
   done_or_starved (capture.Ran (ran.Budget n)) did = let spent = (the_run (ran.Budget n) did).0 in let e : Finished ≡ Budget = sym can.finished ∙ spent in absurd (cc)

@@ -1,22 +1,22 @@
 -- From the recording of a run to what `capture` did.
-use Rattle.std.proofs.Common.{◌≡◌, ℕ, ◌<◌, List, [], ◌∷◌, Option, Some, None, IfSome, refl, sym, ◌∙◌, ap, subst, arith, length}
+use Rattle.std.proofs.Common.{◌≡◌, ℕ, ◌<◌, List, [], ◌∷◌, Option, Some, None, IfSome, Ok, refl, sym, ◌∙◌, ap, subst, arith, length}
 use Rattle.mug_text.proofs.Texts.{bytes_back, units_fit, well_formed}
-use Rattle.arrival_file.specs.Format.{AreArrivals}
+use Rattle.arrival_file.specs.Format.{arrivals_of}
 use Rattle.arrival_file.specs.Ranges.{InRanges}
 use Rattle.arrival_file.specs.declared.arrival.Arrivals.{Arrivals}
-use Rattle.input_log.specs.Items.{IsBase}
+use Rattle.input_log.specs.Items.{IsBaseText}
+use Rattle.input_log.specs.declared.item.LogItem.{LogItem}
 use Rattle.input_log.specs.declared.item.LogItem.TheVariants.{Head}
-use Rattle.capture_engine.specs.Grouping.{frames_of}
+use Rattle.capture_engine.specs.Frames.{AreFramesOf}
 use Rattle.capture_engine.specs.Outside.{Shown}
 use Rattle.capture_engine.specs.Recording.{Unchanged, inputs_in}
 use Rattle.mugshot_cli.specs.Capturing.{CaptureDid, IsEmpty, IsThinPage, RunDid}
 use Rattle.mugshot_cli.specs.Outside.{Outside, Still}
-use Rattle.mugshot_cli.specs.ThinPage.Machine.{start_state}
-use Rattle.mugshot_cli.specs.ThinPage.Run.{Run, no_answers, plain}
+use Rattle.mugshot_cli.specs.ThinPage.Run.{Run, plain}
 use Rattle.mugshot_cli.specs.declared.capturing.CaptureOutcome.TheVariants.{Ran}
 use Rattle.mugshot_cli.specs.declared.thin_page.reading.Statement.{Statement}
 use Rattle.mugshot_cli.specs.declared.thin_page.recording.RunOutcome.{RunOutcome}
-use Rattle.mugshot_cli.proofs.RecordingEnds.{all_inputs, inputs_of_frames}
+use Rattle.mugshot_cli.proofs.RecordingEnds.{inputs_of_frames}
 
 pub still_of : (start now after : Shown) → Unchanged start now → after ≡ now → Still start after
 still_of start now after same is = record {
@@ -27,26 +27,25 @@ still_of start now after same is = record {
 
 -- `whole` is the run of these statements over these arrivals, and `now` what is shown at its end
 module _ (before after : Outside) {now : Shown} {bytes : List ℕ} {statements : List Statement} (given : Arrivals) {budget : ℕ} (whole : Run) (after_is : after.shows ≡ now) (is : whole ≡ plain budget statements given.turns)
-    (empty : IsEmpty before.shows) (page_is : IfSome before.page (λ b. b ≡ bytes)) (page : IsThinPage bytes statements) (arrivals_are : IfSome before.arrivals (λ b. AreArrivals b given)) where
-  pub ran : (outcome : RunOutcome) → RunDid outcome budget whole (frames_of (Head given.base budget bytes) whole.inputs) before.shows now → CaptureDid (Ran outcome) budget before after
+    (empty : IsEmpty before.shows) (page_is : IfSome before.page (λ b. b ≡ bytes)) (page : IsThinPage bytes statements) (arrivals_are : IfSome before.arrivals (λ b. arrivals_of b ≡ Ok given)) (frames : List (List LogItem)) (frames_are : AreFramesOf (Head given.base budget bytes) whole.inputs frames) where
+  pub ran : (outcome : RunOutcome) → RunDid outcome budget whole frames before.shows now → CaptureDid (Ran outcome) budget before after
   ran outcome did = record {
     empty = empty;
     bytes = bytes;
     statements = statements;
     given = given;
+    frames = frames;
     page_is = page_is;
     page = page;
     arrivals_are = arrivals_are;
+    frames_are = subst (λ (w : Run). AreFramesOf (Head given.base budget bytes) w.inputs frames) is frames_are;
     did =
-        subst (λ (s : Shown). RunDid outcome budget (plain budget statements given.turns) (frames_of (Head given.base budget bytes) (plain budget statements given.turns).inputs) before.shows s) (sym after_is)
-        (subst (λ (w : Run). RunDid outcome budget w (frames_of (Head given.base budget bytes) w.inputs) before.shows now) is did);
+        subst (λ (s : Shown). RunDid outcome budget (plain budget statements given.turns) frames before.shows s) (sym after_is)
+        (subst (λ (w : Run). RunDid outcome budget w frames before.shows now) is did);
   }
 
-pub inputs_count : (budget : ℕ) (statements : List Statement) (given : Arrivals) (bytes : List ℕ) (whole : Run) → whole ≡ plain budget statements given.turns
-    → inputs_in (frames_of (Head given.base budget bytes) whole.inputs) ≡ length whole.inputs
-inputs_count budget statements given bytes whole is =
-    subst (λ (w : Run). inputs_in (frames_of (Head given.base budget bytes) w.inputs) ≡ length w.inputs) (sym is)
-    (inputs_of_frames (Head given.base budget bytes) (plain budget statements given.turns).inputs refl (all_inputs budget (start_state statements) no_answers given.turns))
+pub inputs_count : (base bytes : List ℕ) (budget : ℕ) (whole : Run) (frames : List (List LogItem)) → AreFramesOf (Head base budget bytes) whole.inputs frames → inputs_in frames ≡ length whole.inputs
+inputs_count base bytes budget whole frames are = inputs_of_frames (Head base budget bytes) whole.inputs frames refl are
 
 -- what is told of the bytes that were read
 pub told_of : (P : List ℕ → Type 0) (o : Option (List ℕ)) (bytes : List ℕ) → IfSome o (λ b. b ≡ bytes) → P bytes → IfSome o P
@@ -70,9 +69,9 @@ some_told None n told some = tt
 some_told (Some h) n told some = grind (arith, told, some)
 
 -- a base that an arrival file has is one that a head can have
-pub base_of : (given : Arrivals) → InRanges given → IsBase given.base
+pub base_of : (given : Arrivals) → InRanges given → IsBaseText given.base
 base_of given ranges = record {
-  units = units_fit ranges.text;
-  well_formed = well_formed ranges.text;
-  sized = omega (arith, ap length (bytes_back ranges.text), ranges.small);
+  units = units_fit ranges.base.text;
+  well_formed = well_formed ranges.base.text;
+  sized = omega (arith, ap length (bytes_back ranges.base.text), ranges.base.short);
 }

@@ -9,26 +9,29 @@ use Rattle.mug_outside.proofs.Told.{behind_behind, behind_nil}
 use Rattle.arrival_file.specs.declared.arrival.Arrival.{Arrival}
 use Rattle.input_log.specs.Kinds.{is_input}
 use Rattle.input_log.specs.declared.item.LogItem.{LogItem}
-use Rattle.input_log.specs.declared.item.LogItem.TheVariants.{Load}
+use Rattle.input_log.specs.Inputs.{logged}
+use Rattle.input_log.proofs.LoggedInputs.{come_back, inputs_counted}
+use Rattle.page_inputs.specs.declared.input.PageInput.{PageInput}
 use Rattle.std.specs.Int.{to_be_bytes, w32}
 use Rattle.log_frames.specs.Frames.{frame, opened}
-use Rattle.session_store.specs.Session.{items_of, payload_of}
-use Rattle.session_store.specs.Recovery.{place_behind}
+use Rattle.session_store.specs.Session.{payload_of}
+use Rattle.session_store.specs.Recovery.{place_after}
 use Rattle.session_store.specs.Keeping.{file}
 use Rattle.session_store.specs.declared.keeper.StoreFault.TheVariants as store_fault
 use Rattle.session_store.specs.declared.keeper.TheConstants.{SESSION_LIMIT}
-use Rattle.capture_engine.specs.Grouping.{ack_line, acks, acks_below, acks_from, ends_before, fitting, fitting_from, frames_of, grouped, text_of}
+use Rattle.capture_engine.specs.Acks.{ack_line, acks, acks_below, acks_from, text_of_lines}
+use Rattle.capture_engine.specs.Frames.{AreFramesOf, fitting, fitting_from}
 use Rattle.capture_engine.specs.Outside.{IsEarly, Shown, seen}
-use Rattle.capture_engine.specs.Recording.{Halted, Holds, IsFaultyAt, IsFullAt, IsUnsaidAt, Recorded, RecorderState, Starved, Stopped, Unmade, inputs_in}
+use Rattle.capture_engine.specs.Recording.{Committed, Halted, Holds, IsFaultyAt, IsFullAt, IsUnsaidAt, RecorderState, Starved, Stopped, Unmade, inputs_in}
 use Rattle.capture_engine.specs.declared.recorder.CaptureFault.{CaptureFault}
 use Rattle.capture_engine.specs.declared.recorder.CaptureFault.TheVariants.{Store, WriteFault, NoMemory}
+use Rattle.capture_engine.proofs.Recordings.{inputs_in_a_row}
 use Rattle.capture_engine.proofs.Records.{acks_append, acks_push, count_append, frames_small, rose_later, text_push}
 use Rattle.mugshot_cli.specs.Capturing.{HaltDid, HasFailedDisk, HasFailedOutput, HasRecorded, HasStarved, RunDid, capture_lines, summary, summary_line}
-use Rattle.mugshot_cli.specs.ThinPage.Run.{Answers, Run, answer, answers_of, asked, moment, used, goes_on, plain_from, ends, is_finished}
+use Rattle.mugshot_cli.specs.ThinPage.Run.{Answers, Run, answer, answers_of, moment, used, goes_on, plain_from, ends, is_finished}
 use Rattle.mugshot_cli.specs.ThinPage.Machine.{State, begun, contract}
 use Rattle.mugshot_cli.specs.ThinPage.PlainState.{EndsIn, IsPlainEnd, PlainState, RunsOn, rest_of, run_end}
 use Rattle.mugshot_cli.specs.declared.thin_page.page.Move.{Move}
-use Rattle.mugshot_cli.specs.declared.thin_page.page.Move.TheVariants.{Pass, Clock, Draw, Print}
 use Rattle.mugshot_cli.specs.declared.thin_page.end.End.{End}
 use Rattle.mugshot_cli.specs.declared.thin_page.end.End.TheVariants.{Finished, Budget}
 use Rattle.mugshot_cli.specs.declared.thin_page.end.PlainEnd.{PlainEnd}
@@ -65,86 +68,52 @@ line_at frames others group last =
 
 -- ---- the frames that fit
 
-place_cons : (f : List LogItem) (frames : List (List LogItem)) → place_behind (f ∷ frames) ≡ place_behind frames + 5 + length (payload_of f)
+place_cons : (f : List LogItem) (frames : List (List LogItem)) → place_after (f ∷ frames) ≡ place_after frames + 5 + length (payload_of f)
 place_cons f frames = let p = payload_of f in omega (arith, length-append (frame p) (opened (map payload_of frames)), length-append (to_be_bytes w32 (length p)) p)
 
-fits_on : (at : ℕ) (frames others : List (List LogItem)) (end : ℕ) → end + 9 ≡ at + place_behind frames → end ≤ SESSION_LIMIT → fitting_from at (frames ++ others) ≡ frames ++ fitting_from end others
+fits_on : (at : ℕ) (frames others : List (List LogItem)) (end : ℕ) → end + 9 ≡ at + place_after frames → end ≤ SESSION_LIMIT → fitting_from at (frames ++ others) ≡ frames ++ fitting_from end others
 fits_on at [] others end is fits = let e : at ≡ end = omega arith in ap (λ n. fitting_from n others) e
 fits_on at (f ∷ frames) others end is fits =
     let p = length (payload_of f) in
-    let size : place_behind (f ∷ frames) ≡ place_behind frames + 5 + p = place_cons f frames in
+    let size : place_after (f ∷ frames) ≡ place_after frames + 5 + p = place_cons f frames in
     let small = frames_small frames in
     let test : nat_le (at + 5 + p) SESSION_LIMIT ≡ true = grind (arith, nat_tests) in
     cond-true _ _ _ test ∙ ap (λ (l : List (List LogItem)). f ∷ l) (fits_on (at + 5 + p) frames others end (omega arith) fits)
 
 -- the frames before the first that is past the limit
-pub fitting_full : (frames others all : List (List LogItem)) (group : List LogItem) → all ≡ frames ++ group ∷ others → place_behind frames ≤ SESSION_LIMIT → SESSION_LIMIT < place_behind frames + 5 + length (payload_of group)
+pub fitting_full : (frames others all : List (List LogItem)) (group : List LogItem) → all ≡ frames ++ group ∷ others → place_after frames ≤ SESSION_LIMIT → SESSION_LIMIT < place_after frames + 5 + length (payload_of group)
     → fitting all ≡ frames
 fitting_full frames others all group is fits full =
-    let test : nat_le (place_behind frames + 5 + length (payload_of group)) SESSION_LIMIT ≡ false = grind (arith, nat_tests) in
-    ap fitting is ∙ fits_on 9 frames (group ∷ others) (place_behind frames) (omega arith) fits ∙ ap (λ (l : List (List LogItem)). frames ++ l) (cond-false _ _ _ test) ∙ append-nil frames
+    let test : nat_le (place_after frames + 5 + length (payload_of group)) SESSION_LIMIT ≡ false = grind (arith, nat_tests) in
+    ap fitting is ∙ fits_on 9 frames (group ∷ others) (place_after frames) (omega arith) fits ∙ ap (λ (l : List (List LogItem)). frames ++ l) (cond-false _ _ _ test) ∙ append-nil frames
 
 -- all of them, where the last is within the limit
-pub all_fit : (frames : List (List LogItem)) → place_behind frames ≤ SESSION_LIMIT → fitting frames ≡ frames
-all_fit frames fits = ap fitting (sym (append-nil frames)) ∙ fits_on 9 frames [] (place_behind frames) (omega arith) fits ∙ append-nil frames
+pub all_fit : (frames : List (List LogItem)) → place_after frames ≤ SESSION_LIMIT → fitting frames ≡ frames
+all_fit frames fits = ap fitting (sym (append-nil frames)) ∙ fits_on 9 frames [] (place_after frames) (omega arith) fits ∙ append-nil frames
 
-place_take : (n : ℕ) (frames : List (List LogItem)) → place_behind (take n frames) ≤ place_behind frames
+place_take : (n : ℕ) (frames : List (List LogItem)) → place_after (take n frames) ≤ place_after frames
 place_take zero frames = let small = frames_small frames in omega arith
 place_take (suc n) [] = omega arith
 place_take (suc n) (f ∷ frames) = omega (arith, place_cons f frames, place_cons f (take n frames), place_take n frames)
 
 -- frames up to one that fits
-prefix_fits : (frames others all : List (List LogItem)) (group : List LogItem) (j : ℕ) → all ≡ frames ++ group ∷ others → place_behind (frames ++ group ∷ []) ≤ SESSION_LIMIT → j ≤ length frames
+prefix_fits : (frames others all : List (List LogItem)) (group : List LogItem) (j : ℕ) → all ≡ frames ++ group ∷ others → place_after (frames ++ group ∷ []) ≤ SESSION_LIMIT → j ≤ length frames
     → fitting (take (j + 1) all) ≡ take (j + 1) all
 prefix_fits frames others all group j is fits within =
     let front = frames ++ group ∷ [] in
     let size : length front ≡ length frames + 1 = length-append frames (group ∷ []) in
     let short : j + 1 ≤ length front = omega arith in
     let part : take (j + 1) all ≡ take (j + 1) front = ap (take (j + 1)) (is ∙ sym (append_assoc frames (group ∷ []) others)) ∙ take-append-le (j + 1) front others short in
-    all_fit (take (j + 1) all) (omega (arith, ap place_behind part, place_take (j + 1) front, fits))
+    all_fit (take (j + 1) all) (omega (arith, ap place_after part, place_take (j + 1) front, fits))
 
 -- ---- the inputs in all frames
 
-pub items_grouped : (current items : List LogItem) → items_of (grouped current items) ≡ current ++ items
-items_grouped [] [] = refl
-items_grouped (first ∷ others) [] = refl
-items_grouped current (item ∷ items) = by_test (ends_before current item) (items_grouped (item ∷ []) items) (items_grouped (current ++ item ∷ []) items)
-  where
-    by_test : (b : Bool) → items_of (grouped (item ∷ []) items) ≡ item ∷ items → items_of (grouped (current ++ item ∷ []) items) ≡ (current ++ item ∷ []) ++ items
-        → items_of (if b then current ∷ grouped (item ∷ []) items else grouped (current ++ item ∷ []) items) ≡ current ++ item ∷ items
-    by_test true new on = ap (λ (l : List LogItem). current ++ l) new
-    by_test false new on = on ∙ append_assoc current (item ∷ []) items
-
-pub inputs_of_frames : (head : LogItem) (inputs : List LogItem) → is_input head ≡ false → count_by is_input inputs ≡ length inputs → inputs_in (frames_of head inputs) ≡ length inputs
-inputs_of_frames head inputs none all =
+pub inputs_of_frames : (head : LogItem) (inputs : List PageInput) (frames : List (List LogItem)) → is_input head ≡ false → AreFramesOf head inputs frames → inputs_in frames ≡ length inputs
+inputs_of_frames head inputs frames none are =
     let one : count_by is_input (head ∷ []) ≡ 0 = ap (λ (b : Bool). 0 + cond b 1 0) none in
-    ap (λ (l : List LogItem). count_by is_input (head ∷ l)) (items_grouped [] inputs) ∙ (let e = count_append is_input (head ∷ []) inputs in omega (arith, e, one, all))
-
--- all that a run consumes is inputs
-counted : (inputs more : List LogItem) → count_by is_input inputs ≡ length inputs → count_by is_input more ≡ length more → count_by is_input (inputs ++ more) ≡ length (inputs ++ more)
-counted inputs more some others = omega (arith, count_append is_input inputs more, length-append inputs more, some, others)
-
-asked_inputs : (a : Answers) (move : Move) → count_by is_input (asked a move) ≡ length (asked a move)
-asked_inputs a Pass = refl
-asked_inputs a Clock = refl
-asked_inputs a Draw = refl
-asked_inputs a (Print arguments) = refl
-
-counts_on : (next : State → Answers → List Arrival → Run) (s : State) (a : Answers) (left : List Move) (arrivals : List Arrival)
-    → ((s : State) (a : Answers) (arrivals : List Arrival) → count_by is_input (next s a arrivals).inputs ≡ length (next s a arrivals).inputs)
-    → count_by is_input (goes_on next s a left arrivals).inputs ≡ length (goes_on next s a left arrivals).inputs
-counts_on next s a [] [] more = refl
-counts_on next s a [] (arrival ∷ arrivals) more =
-    let rest = next (begun s (moment arrival.turn)) (answers_of arrival) arrivals in
-    counted (Load (moment arrival.turn) ∷ []) rest.inputs refl (more (begun s (moment arrival.turn)) (answers_of arrival) arrivals)
-counts_on next s a (move ∷ left) arrivals more =
-    let rest = next (contract s move left (answer a move)) (used a move) arrivals in
-    counted (asked a move) rest.inputs (asked_inputs a move) (more (contract s move left (answer a move)) (used a move) arrivals)
-
-pub all_inputs : (n : ℕ) (s : State) (a : Answers) (arrivals : List Arrival) → count_by is_input (plain_from n s a arrivals).inputs ≡ length (plain_from n s a arrivals).inputs
-all_inputs zero s a arrivals = ap (λ (r : Run). count_by is_input r.inputs) (none_left s a arrivals) ∙ sym (ap (λ (r : Run). length r.inputs) (none_left s a arrivals))
-all_inputs (suc n) s a arrivals =
-    ap (λ (r : Run). count_by is_input r.inputs) (one_more n s a arrivals) ∙ counts_on (plain_from n) s a s.left arrivals (all_inputs n) ∙ sym (ap (λ (r : Run). length r.inputs) (one_more n s a arrivals))
+    let row : inputs_in frames ≡ count_by is_input ((head ∷ []) ++ logged inputs) = ap (count_by is_input) (inputs_in_a_row head inputs frames are) in
+    let others : count_by is_input (logged inputs) ≡ length inputs = inputs_counted (logged inputs) ∙ ap length (come_back inputs) in
+    omega (arith, row, one, others, count_append is_input (head ∷ []) (logged inputs))
 
 -- ---- how a run over arrivals ends
 
@@ -223,7 +192,7 @@ disk_did all start now stopped =
           let lines : acks_below k 0 2 (frames ++ stopped.group ∷ stopped.others) ≡ acks frames = until k 0 2 frames (stopped.group ∷ stopped.others) (λ some. omega arith) (omega arith) in (
             k,
             omega arith,
-            stops.printed ∙ ap (λ (l : List (List ℕ)). behind (text_of l) start.taken) (sym (ap (acks_below k 0 2) stopped.is ∙ lines)),
+            stops.printed ∙ ap (λ (l : List (List ℕ)). behind (text_of_lines l) start.taken) (sym (ap (acks_below k 0 2) stopped.is ∙ lines)),
             (λ j below. prefix_fits frames stopped.others all stopped.group j stopped.is stops.fits (omega arith)),
           );
     }
@@ -239,7 +208,7 @@ created_not all start now rose still time = record {
       let lines : acks_below k 0 2 all ≡ [] = until k 0 2 [] all (λ some. absurd (omega arith)) (omega arith) in (
         k,
         omega arith,
-        still ∙ sym (ap (λ (l : List (List ℕ)). behind (text_of l) start.taken) lines ∙ behind_nil start.taken),
+        still ∙ sym (ap (λ (l : List (List ℕ)). behind (text_of_lines l) start.taken) lines ∙ behind_nil start.taken),
         (λ j below. absurd (omega arith)),
       );
 }
@@ -293,12 +262,12 @@ start_did NoMemory run all start now (inl made) = (0, recorded_at [] made)
 start_did fault run all start now (inr halted) = halt_did fault run all start now halted
 
 -- the last line was written
-module _ {start : Shown} {held : Option (List ℕ)} {moment : ℕ} {taken : Option (List ℕ)} {disk out : ℕ} {all : List (List LogItem)} {r : RecorderState} (so_far : Recorded start (seen held moment taken disk out) all [] r)
+module _ {start : Shown} {held : Option (List ℕ)} {moment : ℕ} {taken : Option (List ℕ)} {disk out : ℕ} {all : List (List LogItem)} {r : RecorderState} (so_far : Committed start (seen held moment taken disk out) all [] r)
     (budget : ℕ) (run : Run) (line : List ℕ) (line_is : line ≡ summary_line run (length all)) where
-  printed : (new : Option (List ℕ)) → new ≡ behind line taken → new ≡ behind (text_of (capture_lines run all)) start.taken
+  printed : (new : Option (List ℕ)) → new ≡ behind line taken → new ≡ behind (text_of_lines (capture_lines run all)) start.taken
   printed new took =
-      took ∙ ap (behind line) so_far.holds.printed ∙ behind_behind (text_of (acks all)) line start.taken
-      ∙ ap (λ (l : List ℕ). behind l start.taken) (ap (λ (l : List ℕ). text_of (acks all) ++ l) line_is ∙ sym (text_push (acks all) (summary_line run (length all))))
+      took ∙ ap (behind line) so_far.holds.printed ∙ behind_behind (text_of_lines (acks all)) line start.taken
+      ∙ ap (λ (l : List ℕ). behind l start.taken) (ap (λ (l : List ℕ). text_of_lines (acks all) ++ l) line_is ∙ sym (text_push (acks all) (summary_line run (length all))))
 
   recorded : (new : Option (List ℕ)) (out' : ℕ) → new ≡ behind line taken → HasRecorded all (capture_lines run all) start (seen held moment new disk out')
   recorded new out' took = record { fit = all_fit all so_far.holds.fits; file_is = so_far.holds.file_is; printed = printed new took; time = so_far.holds.time }
@@ -321,7 +290,7 @@ module _ {start : Shown} {held : Option (List ℕ)} {moment : ℕ} {taken : Opti
           after = [];
           is = refl;
           number = sym (length-acks 0 2 all);
-          less = subst (λ (l : List ℕ). TookLess l (behind (text_of (acks all)) start.taken) new) line_is (subst (λ (o : Option (List ℕ)). TookLess line o new) so_far.holds.printed less);
+          less = subst (λ (l : List ℕ). TookLess l (behind (text_of_lines (acks all)) start.taken) new) line_is (subst (λ (o : Option (List ℕ)). TookLess line o new) so_far.holds.printed less);
         };
         fit = ap fitting part ∙ all_fit all so_far.holds.fits ∙ sym part;
         file_is = so_far.holds.file_is ∙ ap (λ (f : List (List LogItem)). option_map (λ _. file f) start.held) (sym part);

@@ -1,5 +1,6 @@
 -- Where nothing fails, `replay` of a session with a thin page answers by the end of its run, or finds no memory.
 use Rattle.std.proofs.Common.{◌≡◌, ◌⊎◌, inl, inr, ℕ, ◌+◌, List, [], ◌∷◌, length, Some, refl, sym, ◌∙◌, subst}
+use Rattle.input_log.specs.Inputs.{inputs_of}
 use Rattle.input_log.specs.declared.item.LogItem.TheVariants.{Head}
 use Rattle.session_store.specs.Recovery.{Whole}
 use Rattle.session_store.proofs.Unique.{one_found}
@@ -24,17 +25,17 @@ use Rattle.mugshot_cli.proofs.ThinPage.Statements.{same_page}
 -- bytes have one run
 one_run : (bytes : List ℕ) (b b' : ℕ) (run run' : Run) → Replays bytes b run → Replays bytes b' run' → run ≡ run'
 one_run bytes b b' run run' r r' =
-    let same : Whole (Head r.base b r.page ∷ r.inputs) r.place ≡ Whole (Head r'.base b' r'.page ∷ r'.inputs) r'.place = one_found bytes _ _ r.whole r'.whole in
+    let same : Whole (Head r.base b r.page ∷ r.items) r.place ≡ Whole (Head r'.base b' r'.page ∷ r'.items) r'.place = one_found bytes _ _ r.whole r'.whole in
     let budgets : b ≡ b' = cc in
     let pages : r.page ≡ r'.page = cc in
-    let inputs : r.inputs ≡ r'.inputs = cc in
+    let items : r.items ≡ r'.items = cc in
     let thin : IsThin r'.page r.statements = subst (λ (l : List ℕ). IsThin l r.statements) pages r.thin in
     let statements : r.statements ≡ r'.statements = same_page r'.page _ _ thin r'.thin in
-    r.is ∙ (λ i. from_inputs (budgets i) (statements i) (inputs i)) ∙ sym r'.is
+    r.is ∙ (λ i. from_inputs (budgets i) (statements i) (inputs_of (items i))) ∙ sym r'.is
 
 not_other : (bytes : List ℕ) (budget : ℕ) (run : Run) → Replays bytes budget run → HasOtherPage bytes → ⊥
 not_other bytes budget run r other =
-    let same : Whole (Head r.base budget r.page ∷ r.inputs) r.place ≡ Whole (Head other.base other.budget other.page ∷ other.inputs) other.place = one_found bytes _ _ r.whole other.whole in
+    let same : Whole (Head r.base budget r.page ∷ r.items) r.place ≡ Whole (Head other.base other.budget other.page ∷ other.items) other.place = one_found bytes _ _ r.whole other.whole in
     let pages : r.page ≡ other.page = cc in
     other.other r.statements (subst (λ (l : List ℕ). IsThin l r.statements) pages r.thin)
 
@@ -79,7 +80,7 @@ answers (Refused why) before after bytes budget run is replays quiet did =
     starved run _ (starved_alone why before.held before.disk after.disk bytes _ _ is replays.whole quiet.disk did.1)
 answers Headless before after bytes budget run is replays quiet did =
     let empty = told IsHeadless before.held bytes is did.1 in
-    let e : Whole [] empty.0 ≡ Whole (Head replays.base budget replays.page ∷ replays.inputs) replays.place = one_found bytes _ _ empty.1 replays.whole in absurd (cc)
+    let e : Whole [] empty.0 ≡ Whole (Head replays.base budget replays.page ∷ replays.items) replays.place = one_found bytes _ _ empty.1 replays.whole in absurd (cc)
 answers OtherPage before after bytes budget run is replays quiet did = absurd (not_other bytes budget run replays (told HasOtherPage before.held bytes is did.1))
 answers WriteFault before after bytes budget run is replays quiet did = absurd (quiet.out did.0)
 answers NoMemory before after bytes budget run is replays quiet did = starved run status.NoMemory refl

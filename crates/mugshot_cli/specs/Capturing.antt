@@ -1,20 +1,23 @@
 -- What `capture` prints and writes, and why it answers as it does.
-use Rattle.std.specs.Prelude.{◌≡◌, ◌≢◌, ◌⊎◌, ℕ, ◌+◌, ◌*◌, ◌<◌, ◌≤◌, List, [], ◌∷◌, ◌++◌, length, take, All, codes, decimal, Option, IfSome, option_map}
+use Rattle.std.specs.Prelude.{◌≡◌, ◌≢◌, ◌⊎◌, ℕ, ◌+◌, ◌*◌, ◌<◌, ◌≤◌, List, [], ◌∷◌, ◌++◌, length, take, All, codes, decimal, Option, IfSome, option_map, Ok, Err}
 use Rattle.mug_outside.specs.Told.{ReadWithin, behind, TookLess}
 use Rattle.mug_outside.specs.Cause.{Rose}
 use Rattle.mug_text.specs.Text.{IsText, StopsAt}
 use Rattle.mug_text.specs.declared.limits.TheConstants.{PAGE_LIMIT}
-use Rattle.arrival_file.specs.Format.{AreArrivals, BreaksAt, IsNotBuiltAt}
+use Rattle.arrival_file.specs.Format.{arrivals_of}
+use Rattle.arrival_file.specs.declared.arrival.ArrivalFault.TheVariants as arrival_fault
 use Rattle.arrival_file.specs.declared.arrival.Arrivals.{Arrivals}
-use Rattle.arrival_file.specs.declared.reading.TheConstants.{FILE_LIMIT}
+use Rattle.arrival_file.specs.declared.limits.TheConstants.{FILE_LIMIT}
 use Rattle.input_log.specs.declared.item.LogItem.{LogItem}
 use Rattle.input_log.specs.declared.item.LogItem.TheVariants.{Head}
 use Rattle.arrival_file.specs.Ranges.{IsInRange}
 use Rattle.arrival_file.specs.declared.arrival.Arrival.{Arrival}
+use Rattle.input_log.specs.Inputs.{logged}
 use Rattle.input_log.specs.Items.{IsItem}
 use Rattle.session_store.specs.Keeping.{file}
-use Rattle.session_store.specs.Recovery.{Recovers, Whole, place_behind}
-use Rattle.capture_engine.specs.Grouping.{acks, acks_below, fitting, frames_of, text_of}
+use Rattle.session_store.specs.Recovery.{Recovers, Whole, place_after}
+use Rattle.capture_engine.specs.Acks.{acks, acks_below, text_of_lines}
+use Rattle.capture_engine.specs.Frames.{AreFramesOf, fitting}
 use Rattle.capture_engine.specs.Outside.{IsEarly, Shown}
 use Rattle.capture_engine.specs.declared.recorder.CaptureFault.{CaptureFault}
 use Rattle.capture_engine.specs.declared.recorder.CaptureFault.TheVariants as fault
@@ -63,7 +66,7 @@ pub record FailedAt (lines : List (List ℕ)) (n : ℕ) (taken taken' : Option (
   pub after : List (List ℕ)
   pub is : lines ≡ before ++ line ∷ after
   pub number : n ≡ length before
-  pub less : TookLess line (behind (text_of before) taken) taken'
+  pub less : TookLess line (behind (text_of_lines before) taken) taken'
 
 -- ---- what a recording did, from an empty disk on
 
@@ -71,14 +74,14 @@ pub record FailedAt (lines : List (List ℕ)) (n : ℕ) (taken taken' : Option (
 pub record HasRecorded (frames : List (List LogItem)) (lines : List (List ℕ)) (start now : Shown) : Type 0 where
   pub fit : fitting frames ≡ frames
   pub file_is : now.held ≡ option_map (λ _. file frames) start.held
-  pub printed : now.taken ≡ behind (text_of lines) start.taken
+  pub printed : now.taken ≡ behind (text_of_lines lines) start.taken
   pub time : IsEarly start.moment → now.moment ≡ start.moment + (2 + 4 * length frames)
 
 -- the disk failed k writes and syncs after the start: the lines that name a number below k were taken, and each frame of which a write was made fits
 pub record HasFailedDisk (frames : List (List LogItem)) (start now : Shown) : Type 0 where
   pub rose : Rose start.disk now.disk
   pub when : IsEarly start.moment
-      → (k : ℕ) × (now.moment ≡ start.moment + k) × (now.taken ≡ behind (text_of (acks_below k 0 2 frames)) start.taken)
+      → (k : ℕ) × (now.moment ≡ start.moment + k) × (now.taken ≡ behind (text_of_lines (acks_below k 0 2 frames)) start.taken)
       × ((j : ℕ) → 2 + 4 * j < k → fitting (take (j + 1) frames) ≡ take (j + 1) frames)
 
 -- the output failed after n whole lines: the disk holds one frame more than these acknowledge, or all
@@ -142,10 +145,12 @@ pub record DidRun (outcome : RunOutcome) (budget : ℕ) (before : Outside) (now 
   pub bytes : List ℕ
   pub statements : List Statement
   pub given : Arrivals
+  pub frames : List (List LogItem)
   pub page_is : IfSome before.page (λ b. b ≡ bytes)
   pub page : IsThinPage bytes statements
-  pub arrivals_are : IfSome before.arrivals (λ b. AreArrivals b given)
-  pub did : RunDid outcome budget (plain budget statements given.turns) (frames_of (Head given.base budget bytes) (plain budget statements given.turns).inputs) before.shows now
+  pub arrivals_are : IfSome before.arrivals (λ b. arrivals_of b ≡ Ok given)
+  pub frames_are : AreFramesOf (Head given.base budget bytes) (plain budget statements given.turns).inputs frames
+  pub did : RunDid outcome budget (plain budget statements given.turns) frames before.shows now
 
 -- why a page is refused, by its bytes and its source's count of faults; what was read of it before a fault is within the limit
 abbrev pub PageRefused : PageRefusal → Outside → Outside → Type 0
@@ -158,8 +163,8 @@ PageRefused page_refusal.NoMemory before after = Unit {0}
 -- why an arrival file is, behind a thin page
 abbrev pub FileRefused : ArrivalsRefusal → Outside → Outside → Type 0
 FileRefused arrivals_refusal.ReadFault before after = Rose before.arrivals_faults after.arrivals_faults × ReadWithin FILE_LIMIT before.arrivals after.arrivals
-FileRefused (arrivals_refusal.Line line kind) before after = IfSome before.arrivals (λ b. BreaksAt b line kind)
-FileRefused arrivals_refusal.NotBuilt before after = IfSome before.arrivals (λ b. (line : ℕ) × IsNotBuiltAt b line)
+FileRefused (arrivals_refusal.Line line kind) before after = IfSome before.arrivals (λ b. arrivals_of b ≡ Err (arrival_fault.Line line kind))
+FileRefused arrivals_refusal.NotBuilt before after = IfSome before.arrivals (λ b. (line : ℕ) × (arrivals_of b ≡ Err (arrival_fault.NotBuilt line)))
 FileRefused arrivals_refusal.NoMemory before after = Unit {0}
 
 -- by the outcome: nothing was done and why, or the run was recorded
@@ -176,10 +181,10 @@ CaptureDid (Ran outcome) budget before after = DidRun outcome budget before afte
 -- of a page and arrivals of at most one turn, whose frames fit: the file recovers to the head and the inputs, the run from these is the recorded run, and it is finished or over the budget
 abbrev pub CaptureIsReplayed : Type 0
 CaptureIsReplayed =
-    (base page : List ℕ) (budget : ℕ) (statements : List Statement) (arrivals : List Arrival) → IsItem (Head base budget page) → All IsInRange arrivals → 1 ≤ budget
+    (base page : List ℕ) (budget : ℕ) (statements : List Statement) (arrivals : List Arrival) (frames : List (List LogItem))
+    → IsItem (Head base budget page) → All IsInRange arrivals → 1 ≤ budget
     → (arrivals ≡ []) ⊎ ((arrival : Arrival) × (arrivals ≡ arrival ∷ []))
-    → fitting (frames_of (Head base budget page) (plain budget statements arrivals).inputs) ≡ frames_of (Head base budget page) (plain budget statements arrivals).inputs
-    → Recovers (file (frames_of (Head base budget page) (plain budget statements arrivals).inputs))
-    (Whole (Head base budget page ∷ (plain budget statements arrivals).inputs) (place_behind (frames_of (Head base budget page) (plain budget statements arrivals).inputs)))
+    → AreFramesOf (Head base budget page) (plain budget statements arrivals).inputs frames → fitting frames ≡ frames
+    → Recovers (file frames) (Whole (Head base budget page ∷ logged (plain budget statements arrivals).inputs) (place_after frames))
     × (from_inputs budget statements (plain budget statements arrivals).inputs ≡ plain budget statements arrivals)
     × (((plain budget statements arrivals).end ≡ end.Finished) ⊎ ((plain budget statements arrivals).end ≡ end.Budget))

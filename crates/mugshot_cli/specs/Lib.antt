@@ -8,3 +8,4 @@ pub mod Capturing
 pub mod Outcome
 pub mod Top
 pub mod ThinPage
+pub mod inner

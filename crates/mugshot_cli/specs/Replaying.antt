@@ -2,6 +2,7 @@
 use Rattle.std.specs.Prelude.{◌≡◌, ◌⊎◌, ℕ, ◌+◌, List, [], ◌∷◌, length, IfSome}
 use Rattle.mug_outside.specs.Told.{behind, TookLess, TookPart}
 use Rattle.mug_outside.specs.Cause.{Rose}
+use Rattle.input_log.specs.Inputs.{inputs_of}
 use Rattle.input_log.specs.declared.item.LogItem.{LogItem}
 use Rattle.input_log.specs.declared.item.LogItem.TheVariants.{Head}
 use Rattle.session_store.specs.Recovery.{Whole, Recovers}
@@ -17,25 +18,25 @@ use Rattle.mugshot_cli.specs.declared.thin_page.end.End.TheVariants as end
 use Rattle.mugshot_cli.specs.declared.replaying.ReplayOutcome.{ReplayOutcome}
 use Rattle.mugshot_cli.specs.declared.replaying.ReplayOutcome.TheVariants.{Done, Budget, Diverged, Refused, Headless, OtherPage, WriteFault, NoMemory}
 
--- these bytes recover to a head with this budget and a thin page, and inputs, from which the page's run is this
+-- these bytes recover to a head with this budget and a thin page, and items, from whose inputs the page's run is this
 pub record Replays (bytes : List ℕ) (budget : ℕ) (run : Run) : Type 0 where
   pub base : List ℕ
   pub page : List ℕ
-  pub inputs : List LogItem
+  pub items : List LogItem
   pub place : ℕ
   pub statements : List Statement
-  pub whole : Recovers bytes (Whole (Head base budget page ∷ inputs) place)
+  pub whole : Recovers bytes (Whole (Head base budget page ∷ items) place)
   pub thin : IsThin page statements
-  pub is : run ≡ from_inputs budget statements inputs
+  pub is : run ≡ from_inputs budget statements (inputs_of items)
 
 -- these bytes recover to a head with a page that isn't thin
 pub record HasOtherPage (bytes : List ℕ) : Type 0 where
   pub base : List ℕ
   pub budget : ℕ
   pub page : List ℕ
-  pub inputs : List LogItem
+  pub items : List LogItem
   pub place : ℕ
-  pub whole : Recovers bytes (Whole (Head base budget page ∷ inputs) place)
+  pub whole : Recovers bytes (Whole (Head base budget page ∷ items) place)
   pub other : (statements : List Statement) → IsThin page statements → ⊥
 
 -- these bytes recover to no item

@@ -1,12 +1,12 @@
 -- What the top call does, by the command that the words spell.
-use Rattle.std.specs.Prelude.{◌≡◌, ◌⊎◌, ℕ, List, [], Some}
+use Rattle.std.specs.Prelude.{◌≡◌, ◌⊎◌, ℕ, List, [], Some, Ok}
 use Rattle.mug_outside.specs.Cause.{Rose}
-use Rattle.arrival_file.specs.Format.{AreArrivals}
+use Rattle.arrival_file.specs.Format.{arrivals_of}
 use Rattle.arrival_file.specs.declared.arrival.Arrivals.{Arrivals}
 use Rattle.input_log.specs.declared.item.LogItem.{LogItem}
 use Rattle.input_log.specs.declared.item.LogItem.TheVariants.{Head}
 use Rattle.session_store.specs.Recovery.{Recovers, Whole}
-use Rattle.capture_engine.specs.Grouping.{fitting, frames_of}
+use Rattle.capture_engine.specs.Frames.{AreFramesOf, fitting}
 use Rattle.capture_engine.specs.Outside.{Shown}
 use Rattle.mugshot_cli.specs.Command.{Spells, SpellsNone}
 use Rattle.mugshot_cli.specs.Capturing.{CaptureDid, IsPage, IsThinPage}
@@ -74,10 +74,12 @@ pub record CanCapture (steps : ℕ) (before after : Outside) : Type 0 where
   pub text : IsPage bytes
   pub page : IsThinPage bytes statements
   pub file_is : before.arrivals ≡ Some file
-  pub are : AreArrivals file given
+  pub are : arrivals_of file ≡ Ok given
   pub empty : before.shows.held ≡ Some []
   pub finished : (plain steps statements given.turns).end ≡ end.Finished
-  pub fit : fitting (frames_of (Head given.base steps bytes) (plain steps statements given.turns).inputs) ≡ frames_of (Head given.base steps bytes) (plain steps statements given.turns).inputs
+  pub frames : List (List LogItem)
+  pub frames_are : AreFramesOf (Head given.base steps bytes) (plain steps statements given.turns).inputs frames
+  pub fit : fitting frames ≡ frames
   pub quiet : IsQuiet before.shows after.shows
   pub page_quiet : Rose before.page_faults after.page_faults → ⊥
   pub arrivals_quiet : Rose before.arrivals_faults after.arrivals_faults → ⊥

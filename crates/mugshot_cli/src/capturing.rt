@@ -1,9 +1,9 @@
 // Captures the run of a page in a session.
-ghost use Rattle.std.specs.Prelude.{◌≡◌, ◌≤◌, ℕ, List, [], length, All, IfErr, IfOk, IfSome};
+ghost use Rattle.std.specs.Prelude.{◌≡◌, ◌≤◌, ℕ, List, [], length, All, Ok, IfErr, IfOk, IfSome};
 ghost use Rattle.mug_outside.specs.Told.{ReadWithin};
 ghost use Rattle.mug_outside.specs.Cause.{Rose};
 ghost use Rattle.mug_text.specs.declared.limits.TheConstants.{PAGE_LIMIT};
-ghost use Rattle.arrival_file.specs.Format.{AreArrivals};
+ghost use Rattle.arrival_file.specs.Format.{arrivals_of};
 ghost use Rattle.arrival_file.specs.Ranges.{InRanges, IsInRange};
 ghost use Rattle.input_log.specs.Items.{IsItem};
 ghost use Rattle.input_log.specs.declared.item.LogItem.TheVariants.{Head};
@@ -65,7 +65,9 @@ pub enum CaptureOutcome {
 fn read_page<P: Source>(alloc: Global, page: &mut P) -> Result<Bytes, PageRefusal>
     ensures short { IfOk result (λ bytes. length bytes ≤ PAGE_LIMIT) }
     ensures whole { IfOk result (λ bytes. IfSome (P.left page.old) (λ b. b ≡ bytes)) }
-    ensures refused { IfErr result (λ why. (before after : Outside) → before.page ≡ P.left page.old → after.page ≡ P.left page.new → before.page_faults ≡ P.faults page.old
+    ensures refused { IfErr result
+        (λ why. (before after : Outside) → before.page ≡ P.left page.old
+        → after.page ≡ P.left page.new → before.page_faults ≡ P.faults page.old
         → after.page_faults ≡ P.faults page.new → PageRefused why before after) }
 {
     match read_all(alloc, page, PAGE_LIMIT) {
@@ -80,7 +82,9 @@ fn read_page<P: Source>(alloc: Global, page: &mut P) -> Result<Bytes, PageRefusa
 fn statements_of(alloc: Global, page: &[u8]) -> Result<Listed<Statement>, PageRefusal>
     requires { length page.now ≤ PAGE_LIMIT }
     ensures thin { IfOk result (λ statements. IsThinPage page.now statements) }
-    ensures refused { IfErr result (λ why. (before after : Outside) → IfSome before.page (λ b. b ≡ page.now) → PageRefused why before after) }
+    ensures refused { IfErr result
+        (λ why. (before after : Outside) → IfSome before.page (λ b. b ≡ page.now)
+        → PageRefused why before after) }
 {
     match JText::from_utf8(alloc, page) {
         Ok(_text) => {}
@@ -96,9 +100,12 @@ fn statements_of(alloc: Global, page: &[u8]) -> Result<Listed<Statement>, PageRe
 
 // The arrival file, read whole.
 fn read_file<A: Source>(alloc: Global, arrivals: &mut A) -> Result<Arrivals, ArrivalsRefusal>
-    ensures read { IfOk result (λ given. IfSome (A.left arrivals.old) (λ b. AreArrivals b given)) }
+    ensures read { IfOk result
+        (λ given. IfSome (A.left arrivals.old) (λ b. arrivals_of b ≡ Ok given)) }
     ensures ranges { IfOk result (λ given. InRanges given) }
-    ensures refused { IfErr result (λ why. (before after : Outside) → before.arrivals ≡ A.left arrivals.old → after.arrivals ≡ A.left arrivals.new → before.arrivals_faults ≡ A.faults arrivals.old
+    ensures refused { IfErr result
+        (λ why. (before after : Outside) → before.arrivals ≡ A.left arrivals.old
+        → after.arrivals ≡ A.left arrivals.new → before.arrivals_faults ≡ A.faults arrivals.old
         → after.arrivals_faults ≡ A.faults arrivals.new → FileRefused why before after) }
 {
     let bytes = match read_all(alloc, arrivals, FILE_LIMIT) {
@@ -134,8 +141,12 @@ fn record<D: Disk, O: Sink>(
     requires head { IsItem (Head given.base budget page) }
     requires ranges { All IsInRange given.turns }
     requires thin { IsThinPage page statements.now }
-    ensures { (before after : Outside) → Unchanged before.shows (shown D.Disk O.Sink disk.old out.old) → after.shows ≡ shown D.Disk O.Sink disk.new out.new
-        → IfSome before.page (λ b. b ≡ page) → IfSome before.arrivals (λ b. AreArrivals b given) → CaptureDid result budget before after }
+    ensures { (before after : Outside)
+        → Unchanged before.shows (shown D.Disk O.Sink disk.old out.old)
+        → after.shows ≡ shown D.Disk O.Sink disk.new out.new
+        → IfSome before.page (λ b. b ≡ page)
+        → IfSome before.arrivals (λ b. arrivals_of b ≡ Ok given)
+        → CaptureDid result budget before after }
 {
     let Arrivals { base, turns } = given;
     let head = LogItem::Head { base, budget, page };
@@ -165,7 +176,9 @@ pub fn capture<P: Source, A: Source, D: Disk, O: Sink>(
 ) -> CaptureOutcome
     requires least { 1 ≤ budget }
     requires most { budget ≤ STEPS_LIMIT }
-    ensures { CaptureDid result budget (outside P.Source A.Source D.Disk O.Sink page.old arrivals.old disk.old out.old) (outside P.Source A.Source D.Disk O.Sink page.new arrivals.new disk.new out.new) }
+    ensures { CaptureDid result budget
+        (outside P.Source A.Source D.Disk O.Sink page.old arrivals.old disk.old out.old)
+        (outside P.Source A.Source D.Disk O.Sink page.new arrivals.new disk.new out.new) }
 {
     match disk.len() {
         Ok(0) => {}

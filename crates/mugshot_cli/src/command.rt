@@ -62,8 +62,10 @@ fn name_of(alloc: Global, word: &str) -> Result<Bytes, UsageFault>
 
 // The one file that the words name.
 fn one_file(alloc: Global, words: &[String]) -> Result<Bytes, UsageFault>
-    ensures ok { IfOk result (λ name. IsFileName name × (map (λ word. string_bytes word) words.now ≡ name ∷ [])) }
-    ensures usage { IsErrOf result UsageFault.Usage → (name : List ℕ) → IsFileName name → map (λ word. string_bytes word) words.now ≢ name ∷ [] }
+    ensures ok { IfOk result
+        (λ name. IsFileName name × (map (λ word. string_bytes word) words.now ≡ name ∷ [])) }
+    ensures usage { IsErrOf result UsageFault.Usage → (name : List ℕ) → IsFileName name
+        → map (λ word. string_bytes word) words.now ≢ name ∷ [] }
 {
     match words {
         [word] => name_of(alloc, word),
@@ -73,7 +75,8 @@ fn one_file(alloc: Global, words: &[String]) -> Result<Bytes, UsageFault>
 
 // A budget as it is spelled.
 fn budget_of(word: &str) -> Option<u64>
-    ensures { MatchOption result ((n : ℕ) → 1 ≤ n → n ≤ STEPS_LIMIT → word.now ≢ decimal n) (λ n. (1 ≤ n) × (n ≤ STEPS_LIMIT) × (word.now ≡ decimal n)) }
+    ensures { MatchOption result ((n : ℕ) → 1 ≤ n → n ≤ STEPS_LIMIT → word.now ≢ decimal n)
+        (λ n. (1 ≤ n) × (n ≤ STEPS_LIMIT) × (word.now ≡ decimal n)) }
 {
     let n = decimal_below(word.as_bytes(), STEPS_LIMIT + 1)?;
     if n < 1 {
@@ -84,7 +87,9 @@ fn budget_of(word: &str) -> Option<u64>
 
 // The budget that an option's words give.
 fn steps_of(words: &[String]) -> Option<u64>
-    ensures { MatchOption result ((n : ℕ) → AreSteps (map (λ word. string_bytes word) words.now) n → ⊥) (λ n. AreSteps (map (λ word. string_bytes word) words.now) n) }
+    ensures { MatchOption result
+        ((n : ℕ) → AreSteps (map (λ word. string_bytes word) words.now) n → ⊥)
+        (λ n. AreSteps (map (λ word. string_bytes word) words.now) n) }
 {
     match words {
         [] => Some(STEPS),
@@ -101,8 +106,10 @@ fn steps_of(words: &[String]) -> Option<u64>
 
 // The files and the budget of a capture.
 fn capture_of(alloc: Global, words: &[String]) -> Result<Command, UsageFault>
-    ensures ok { IfOk result (λ command. HasFiles (map (λ word. string_bytes word) words.now) command) }
-    ensures usage { IsErrOf result UsageFault.Usage → (c : Command) → HasFiles (map (λ word. string_bytes word) words.now) c → ⊥ }
+    ensures ok { IfOk result
+        (λ command. HasFiles (map (λ word. string_bytes word) words.now) command) }
+    ensures usage { IsErrOf result UsageFault.Usage → (c : Command)
+        → HasFiles (map (λ word. string_bytes word) words.now) c → ⊥ }
 {
     match words {
         [page, arrivals, session, option @ ..] => {
@@ -125,8 +132,10 @@ fn capture_of(alloc: Global, words: &[String]) -> Result<Command, UsageFault>
 
 /// Reads the words of a command line, without the program's name.
 pub fn read_words(alloc: Global, words: &[String]) -> Result<Command, UsageFault>
-    ensures command { IfOk result (λ command. Spells (map (λ word. string_bytes word) words.now) command) }
-    ensures usage { IsErrOf result UsageFault.Usage → SpellsNone (map (λ word. string_bytes word) words.now) }
+    ensures command { IfOk result
+        (λ command. Spells (map (λ word. string_bytes word) words.now) command) }
+    ensures usage { IsErrOf result UsageFault.Usage
+        → SpellsNone (map (λ word. string_bytes word) words.now) }
 {
     match words {
         [name, files @ ..] => match name.as_str() {

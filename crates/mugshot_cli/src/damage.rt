@@ -34,7 +34,9 @@ fn is_later_kind(byte: u8) -> bool
 
 // The number of the bytes of the item that the bytes begin with.
 fn item_len(alloc: Global, bytes: &[u8]) -> Result<Option<usize>, NoMemory>
-    ensures { IfOk result (λ found. MatchOption found (BeginsWithNone bytes.now) (λ len. (item : LogItem) × BeginsWith bytes.now item len)) }
+    ensures { IfOk result
+        (λ found. MatchOption found (BeginsWithNone bytes.now)
+        (λ len. (item : LogItem) × BeginsWith bytes.now item len)) }
 {
     match decode(alloc, bytes)? {
         Some((_item, len)) => Ok(Some(len)),
@@ -58,8 +60,12 @@ fn has_later_kind(alloc: Global, payload: &[u8]) -> Result<bool, NoMemory>
 
 /// Whether the frame whose length stands at this offset is of a kind that isn't built yet.
 pub fn is_unbuilt<D: Disk>(alloc: Global, disk: &mut D, at: u64) -> Result<bool, JudgeFault>
-    ensures told { IfOk result (λ unbuilt. IfSome (D.held disk.old) (λ held. (payload : List ℕ) → IsBroken held at payload → IsTrue unbuilt ↔ HasLaterKind payload)) }
-    ensures fault { IsErrOf result JudgeFault.DiskFault → Rose (D.faults disk.old) (D.faults disk.new) }
+    ensures told { IfOk result
+        (λ unbuilt. IfSome (D.held disk.old)
+        (λ held. (payload : List ℕ) → IsBroken held at payload
+        → IsTrue unbuilt ↔ HasLaterKind payload)) }
+    ensures fault { IsErrOf result JudgeFault.DiskFault
+        → Rose (D.faults disk.old) (D.faults disk.new) }
     ensures later { D.faults disk.old ≤ D.faults disk.new }
     ensures held { D.held disk.new ≡ D.held disk.old }
     ensures moment { D.moment disk.new ≡ D.moment disk.old }

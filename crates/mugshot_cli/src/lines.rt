@@ -79,7 +79,8 @@ impl Lines {
 
     /// Writes all that waits. After a fault the rest of it is given up.
     pub fn flush<O: Sink>(&mut self, out: &mut O) -> Result<(), PrintFault>
-        ensures puts { Puts result [] self.old self.new (stream O.Sink out.old) (stream O.Sink out.new) }
+        ensures puts { Puts result [] self.old self.new (stream O.Sink out.old)
+            (stream O.Sink out.new) }
         ensures none { self.new ≡ [] }
     {
         let wrote = write_whole(out, &self.bytes[..self.len]);
@@ -93,7 +94,8 @@ impl Lines {
     // Writes what waits where so many bytes more don't fit.
     fn make_room<O: Sink>(&mut self, out: &mut O, size: usize) -> Result<(), PrintFault>
         requires { size ≤ 8192 }
-        ensures puts { Puts result [] self.old self.new (stream O.Sink out.old) (stream O.Sink out.new) }
+        ensures puts { Puts result [] self.old self.new (stream O.Sink out.old)
+            (stream O.Sink out.new) }
         ensures room { OnOk result (length self.new + size ≤ 8192) }
     {
         if size <= CAPACITY - self.len {
@@ -104,7 +106,8 @@ impl Lines {
 
     // Writes what waits, and a text that is longer than the buffer.
     fn put_long<O: Sink>(&mut self, out: &mut O, text: &[u8]) -> Result<(), PrintFault>
-        ensures { Puts result text.now self.old self.new (stream O.Sink out.old) (stream O.Sink out.new) }
+        ensures { Puts result text.now self.old self.new (stream O.Sink out.old)
+            (stream O.Sink out.new) }
     {
         self.flush(out)?;
         match write_whole(out, text) {
@@ -116,7 +119,8 @@ impl Lines {
 
     /// Puts a text after what waits.
     pub fn put<O: Sink>(&mut self, out: &mut O, text: &[u8]) -> Result<(), PrintFault>
-        ensures { Puts result text.now self.old self.new (stream O.Sink out.old) (stream O.Sink out.new) }
+        ensures { Puts result text.now self.old self.new (stream O.Sink out.old)
+            (stream O.Sink out.new) }
     {
         if text.len() > CAPACITY {
             return self.put_long(out, text);
@@ -134,7 +138,8 @@ impl Lines {
         n: u64,
     ) -> Result<(), PrintFault>
         requires { length word.now ≤ 40 }
-        ensures { Puts result (numbered_line word.now n) self.old self.new (stream O.Sink out.old) (stream O.Sink out.new) }
+        ensures { Puts result (numbered_line word.now n) self.old self.new (stream O.Sink out.old)
+            (stream O.Sink out.new) }
     {
         self.make_room(out, 81)?;
         self.push(word);

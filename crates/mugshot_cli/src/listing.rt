@@ -21,7 +21,8 @@ pub enum ListOutcome {
 
 /// The whole session is read before anything is printed.
 pub fn list<D: Disk, O: Sink>(alloc: Global, disk: &mut D, out: &mut O) -> ListOutcome
-    ensures { ListDid result (shown D.Disk O.Sink disk.old out.old) (shown D.Disk O.Sink disk.new out.new) }
+    ensures { ListDid result (shown D.Disk O.Sink disk.old out.old)
+        (shown D.Disk O.Sink disk.new out.new) }
 {
     let session = match read_session(alloc, disk) {
         Ok(session) => session,

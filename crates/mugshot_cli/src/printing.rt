@@ -49,7 +49,8 @@ fn put_head<O: Sink>(
     budget: u64,
     page_len: usize,
 ) -> Result<(), PrintFault>
-    ensures { Puts result (head_line base.now budget page_len) lines.old lines.new (stream O.Sink out.old) (stream O.Sink out.new) }
+    ensures { Puts result (head_line base.now budget page_len) lines.old lines.new
+        (stream O.Sink out.old) (stream O.Sink out.new) }
 {
     let line = head(alloc, base, budget, page_len)?;
     lines.put(out, &line)
@@ -62,7 +63,8 @@ fn put_item<O: Sink>(
     out: &mut O,
     item: &LogItem,
 ) -> Result<(), PrintFault>
-    ensures { Puts result (item_line item.now) lines.old lines.new (stream O.Sink out.old) (stream O.Sink out.new) }
+    ensures { Puts result (item_line item.now) lines.old lines.new (stream O.Sink out.old)
+        (stream O.Sink out.new) }
 {
     match item {
         LogItem::Head { base, budget, page } => {
@@ -87,7 +89,8 @@ fn put_items<O: Sink>(
     out: &mut O,
     items: &[LogItem],
 ) -> Result<(), PrintFault>
-    ensures { Puts result (flat_map item_line items.now) lines.old lines.new (stream O.Sink out.old) (stream O.Sink out.new) }
+    ensures { Puts result (flat_map item_line items.now) lines.old lines.new (stream O.Sink out.old)
+        (stream O.Sink out.new) }
 {
     for item in items {
         put_item(alloc, lines, out, item)?;

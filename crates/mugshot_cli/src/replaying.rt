@@ -5,7 +5,7 @@ ghost use Rattle.input_log.specs.declared.item.TheConstants.{STEPS_LIMIT};
 ghost use Rattle.mug_outside.specs.Told.{behind};
 ghost use Rattle.mug_outside.specs.Cause.{Rose};
 ghost use Rattle.session_store.specs.Recovery.{Recovers, Whole};
-ghost use Rattle.capture_engine.specs.Grouping.{text_of};
+ghost use Rattle.capture_engine.specs.Acks.{text_of_lines};
 ghost use Rattle.capture_engine.specs.Outside.{seen, shown};
 ghost use Rattle.mugshot_cli.specs.Outside.{stream};
 ghost use Rattle.mugshot_cli.specs.Printing.{Adds, Broke, Puts};
@@ -20,10 +20,11 @@ use crate::thin_page::end::{End, Want};
 use crate::thin_page::inputs_run::InputsRun;
 use crate::thin_page::reading::{Statement, read_thin};
 use crate::thin_page::tracing::{put_last, put_step};
-use input_log::{LogItem, Word};
+use input_log::{LogItem, Word, inputs_of};
 use mug_disk::Disk;
 use mug_outside::Sink;
 use mug_text::NoMemory;
+use page_inputs::PageInput;
 use std::alloc::Global;
 
 /// What `replay` comes to.
@@ -56,9 +57,16 @@ fn put_steps<O: Sink>(
     run: &mut InputsRun,
 ) -> Result<End, PrintFault>
     ensures over { IfOk result (λ end. RanOut end run.old run.new) }
-    ensures ok { IfOk result (λ end. Adds (text_of (trace_lines (visited (replay_rest run.old)))) lines.old lines.new (stream O.Sink out.old) (stream O.Sink out.new)) }
-    ensures err { IfErr result (λ fault. Broke fault (lines.old ++ text_of (trace_lines (visited (replay_rest run.old)))) (stream O.Sink out.old) (stream O.Sink out.new)) }
-    ensures rose { IsErrOf result PrintFault.WriteFault → Rose (O.faults out.old) (O.faults out.new) }
+    ensures ok { IfOk result
+        (λ end. Adds
+        (text_of_lines (trace_lines (visited (replay_rest run.old)))) lines.old lines.new
+        (stream O.Sink out.old) (stream O.Sink out.new)) }
+    ensures err { IfErr result
+        (λ fault. Broke fault
+        (lines.old ++ text_of_lines (trace_lines (visited (replay_rest run.old))))
+        (stream O.Sink out.old) (stream O.Sink out.new)) }
+    ensures rose { IsErrOf result PrintFault.WriteFault
+        → Rose (O.faults out.old) (O.faults out.new) }
     ensures later { O.faults out.old ≤ O.faults out.new }
 {
     'steps: loop {
@@ -80,7 +88,9 @@ fn put_end<O: Sink>(
     end: End,
     run: &InputsRun,
 ) -> Result<(), PrintFault>
-    ensures puts { Puts result (text_of (last_lines end run.now.state run.now.consumed)) lines.old lines.new (stream O.Sink out.old) (stream O.Sink out.new) }
+    ensures puts { Puts result
+        (text_of_lines (last_lines end run.now.state run.now.consumed)) lines.old lines.new
+        (stream O.Sink out.old) (stream O.Sink out.new) }
     ensures none { OnOk result (lines.new ≡ []) }
 {
     put_last(lines, out, end, run.page(), run.consumed())?;
@@ -93,15 +103,22 @@ fn print_trace<O: Sink>(
     out: &mut O,
     statements: &[Statement],
     budget: u64,
-    inputs: &[LogItem],
+    inputs: &[PageInput],
 ) -> Result<(End, u64), PrintFault>
     requires { budget ≤ STEPS_LIMIT }
-    ensures end { IfOk result (λ pair. (from_inputs budget statements.now inputs.now).end ≡ pair.0) }
-    ensures consumed { IfOk result (λ pair. pair.1 ≡ length (from_inputs budget statements.now inputs.now).inputs) }
+    ensures end { IfOk result
+        (λ pair. (from_inputs budget statements.now inputs.now).end ≡ pair.0) }
+    ensures consumed { IfOk result
+        (λ pair. pair.1 ≡ length (from_inputs budget statements.now inputs.now).inputs) }
     ensures few { IfOk result (λ pair. pair.1 ≤ STEPS_LIMIT) }
-    ensures ok { IfOk result (λ pair. O.taken out.new ≡ behind (trace_text (from_inputs budget statements.now inputs.now)) (O.taken out.old)) }
-    ensures err { IfErr result (λ fault. Broke fault (trace_text (from_inputs budget statements.now inputs.now)) (stream O.Sink out.old) (stream O.Sink out.new)) }
-    ensures rose { IsErrOf result PrintFault.WriteFault → Rose (O.faults out.old) (O.faults out.new) }
+    ensures ok { IfOk result
+        (λ pair. O.taken out.new ≡ behind
+        (trace_text (from_inputs budget statements.now inputs.now)) (O.taken out.old)) }
+    ensures err { IfErr result
+        (λ fault. Broke fault (trace_text (from_inputs budget statements.now inputs.now))
+        (stream O.Sink out.old) (stream O.Sink out.new)) }
+    ensures rose { IsErrOf result PrintFault.WriteFault
+        → Rose (O.faults out.old) (O.faults out.new) }
     ensures later { O.faults out.old ≤ O.faults out.new }
 {
     let mut run = match InputsRun::new(alloc, statements, inputs, budget) {
@@ -137,17 +154,26 @@ fn replay_page<O: Sink>(
     out: &mut O,
     page: &[u8],
     budget: u64,
-    inputs: &[LogItem],
+    items: &[LogItem],
 ) -> ReplayOutcome
     requires { budget ≤ STEPS_LIMIT }
-    ensures { (held held' : Option (List ℕ)) (moment moment' disk disk' : ℕ) → IfSome held (λ bytes. (base : List ℕ) × (place : ℕ) × Recovers bytes (Whole (Head base budget page.now ∷ inputs.now) place))
-        → Replayed result (seen held moment (O.taken out.old) disk (O.faults out.old)) (seen held' moment' (O.taken out.new) disk' (O.faults out.new)) }
+    ensures { (held held' : Option (List ℕ)) (moment moment' disk disk' : ℕ)
+        → IfSome held
+        (λ bytes. (base : List ℕ) × (place : ℕ)
+        × Recovers bytes (Whole (Head base budget page.now ∷ items.now) place))
+        → Replayed result (seen held moment (O.taken out.old) disk (O.faults out.old))
+        (seen held' moment' (O.taken out.new) disk' (O.faults out.new)) }
 {
     let statements = match read_thin(alloc, page) {
         Ok(Some(statements)) => statements,
         Ok(None) => return ReplayOutcome::OtherPage,
         Err(NoMemory) => return ReplayOutcome::NoMemory,
     };
+    let listed = match inputs_of(alloc, items) {
+        Ok(inputs) => inputs,
+        Err(NoMemory) => return ReplayOutcome::NoMemory,
+    };
+    let inputs = listed.as_slice();
     match print_trace(alloc, out, statements.as_slice(), budget, inputs) {
         Ok((end, consumed)) => outcome_at(end, budget, consumed),
         Err(PrintFault::WriteFault) => ReplayOutcome::WriteFault,
@@ -157,14 +183,15 @@ fn replay_page<O: Sink>(
 
 /// The whole session is read before anything is run or printed.
 pub fn replay<D: Disk, O: Sink>(alloc: Global, disk: &mut D, out: &mut O) -> ReplayOutcome
-    ensures { ReplayDid result (shown D.Disk O.Sink disk.old out.old) (shown D.Disk O.Sink disk.new out.new) }
+    ensures { ReplayDid result (shown D.Disk O.Sink disk.old out.old)
+        (shown D.Disk O.Sink disk.new out.new) }
 {
     let session = match read_session(alloc, disk) {
         Ok(session) => session,
         Err(why) => return ReplayOutcome::Refused(why),
     };
     match split_head(session.items()) {
-        Some((page, budget, inputs)) => replay_page(alloc, out, page, budget, inputs),
+        Some((page, budget, items)) => replay_page(alloc, out, page, budget, items),
         None => ReplayOutcome::Headless,
     }
 }

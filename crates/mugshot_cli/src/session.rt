@@ -25,8 +25,10 @@ pub enum SessionRefusal {
 
 /// Reads a session whole.
 pub fn read_session<D: Disk>(alloc: Global, disk: &mut D) -> Result<Session, SessionRefusal>
-    ensures whole { IfOk result (λ session. IfSome (D.held disk.old) (λ held. IsWhole held session.items session.end)) }
-    ensures refused { IfErr result (λ why. IsRefused why (D.held disk.old) (D.faults disk.old) (D.faults disk.new)) }
+    ensures whole { IfOk result
+        (λ session. IfSome (D.held disk.old) (λ held. IsWhole held session.items session.end)) }
+    ensures refused { IfErr result
+        (λ why. IsRefused why (D.held disk.old) (D.faults disk.old) (D.faults disk.new)) }
     ensures held { D.held disk.new ≡ D.held disk.old }
     ensures moment { D.moment disk.new ≡ D.moment disk.old }
     ensures later { D.faults disk.old ≤ D.faults disk.new }
@@ -48,7 +50,8 @@ pub fn read_session<D: Disk>(alloc: Global, disk: &mut D) -> Result<Session, Ses
 /// The page and the budget of a session's head, and its inputs; none where it has no item.
 pub fn split_head(items: &[LogItem]) -> Option<(&[u8], u64, &[LogItem])>
     requires { KeepsRules items.now }
-    ensures { MatchOption result (items.now ≡ []) (λ found. BeginsWithHead items.now found.0.now found.1 found.2.now) }
+    ensures { MatchOption result (items.now ≡ [])
+        (λ found. BeginsWithHead items.now found.0.now found.1 found.2.now) }
 {
     match items {
         [] => None,

@@ -25,7 +25,8 @@ fn run<P: Source, A: Source, D: Disk, O: Sink>(
     out: &mut O,
 ) -> Outcome
     ensures { WordsDid (map (λ word. string_bytes word) words.now) result
-        (outside P.Source A.Source D.Disk O.Sink page.old arrivals.old disk.old out.old) (outside P.Source A.Source D.Disk O.Sink page.new arrivals.new disk.new out.new) }
+        (outside P.Source A.Source D.Disk O.Sink page.old arrivals.old disk.old out.old)
+        (outside P.Source A.Source D.Disk O.Sink page.new arrivals.new disk.new out.new) }
 {
     match read_words(alloc, words) {
         Ok(Command::List { session: _ }) => of_list(list(alloc, disk, out)),
@@ -55,15 +56,20 @@ pub fn mugshot<P: Source, A: Source, D: Disk, O: Sink, E: Sink>(
 ) -> Status
 
     // There is an outcome that the status and the line on `err` tell, and by which the command did what it does.
-    ensures did { (r : Outcome) × (result ≡ status_of r) × TookLine (line_of r) (stream E.Sink err.old) (stream E.Sink err.new)
+    ensures did { (r : Outcome) × (result ≡ status_of r)
+        × TookLine (line_of r) (stream E.Sink err.old) (stream E.Sink err.new)
         × WordsDid (map (λ word. string_bytes word) words.now) r
-        (outside P.Source A.Source D.Disk O.Sink page.old arrivals.old disk.old out.old) (outside P.Source A.Source D.Disk O.Sink page.new arrivals.new disk.new out.new) }
+        (outside P.Source A.Source D.Disk O.Sink page.old arrivals.old disk.old out.old)
+        (outside P.Source A.Source D.Disk O.Sink page.new arrivals.new disk.new out.new) }
 
     // Where nothing fails, `list`, `replay` and `capture` do their work, or find no memory.
-    ensures list_completes { ListCompletes (map (λ word. string_bytes word) words.now) result (shown D.Disk O.Sink disk.old out.old) (shown D.Disk O.Sink disk.new out.new) }
-    ensures replay_completes { ReplayCompletes (map (λ word. string_bytes word) words.now) result (shown D.Disk O.Sink disk.old out.old) (shown D.Disk O.Sink disk.new out.new) }
+    ensures list_completes { ListCompletes (map (λ word. string_bytes word) words.now) result
+        (shown D.Disk O.Sink disk.old out.old) (shown D.Disk O.Sink disk.new out.new) }
+    ensures replay_completes { ReplayCompletes (map (λ word. string_bytes word) words.now) result
+        (shown D.Disk O.Sink disk.old out.old) (shown D.Disk O.Sink disk.new out.new) }
     ensures capture_completes { CaptureCompletes (map (λ word. string_bytes word) words.now) result
-        (outside P.Source A.Source D.Disk O.Sink page.old arrivals.old disk.old out.old) (outside P.Source A.Source D.Disk O.Sink page.new arrivals.new disk.new out.new) }
+        (outside P.Source A.Source D.Disk O.Sink page.old arrivals.old disk.old out.old)
+        (outside P.Source A.Source D.Disk O.Sink page.new arrivals.new disk.new out.new) }
 {
     let outcome = run(alloc, words, page, arrivals, disk, out);
     say(err, outcome);

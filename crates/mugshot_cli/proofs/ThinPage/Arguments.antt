@@ -5,6 +5,7 @@ use Rattle.std.proofs.lemmas.Fmt.{decimal_injective, decimal_is_IsNumeral}
 use Rattle.std.proofs.lemmas.List.{append_cancel_left}
 use Rattle.std.proofs.lemmas.List.Elements.{All-head, All-tail, All-nil, All-cons}
 use Rattle.std.proofs.lemmas.Str.Parse.{digit_from_value}
+use Rattle.mug_text.specs.declared.limits.TheConstants.{SAFE_END}
 use Rattle.mugshot_cli.specs.ThinPage.Reading.{EndsArgument, EndsDigits, HasArguments, IsArgument, IsDigit, argument_text}
 use Rattle.mugshot_cli.specs.declared.thin_page.reading.Argument.{Argument}
 use Rattle.mugshot_cli.specs.declared.thin_page.reading.Argument.TheVariants.{Now, Rand, Number}
@@ -14,7 +15,7 @@ all_digit : (ds : List ℕ) → AllDigits 10 ds → All IsDigit ds
 all_digit [] digits = All-nil IsDigit
 all_digit (d ∷ ds) digits = let k = digit_from_value d digits.0 in All-cons IsDigit d ds (omega arith, omega arith) (all_digit ds digits.1)
 
-decimal_digits : (n : ℕ) → n < 2 ^ 53 → All IsDigit (decimal n)
+decimal_digits : (n : ℕ) → n < SAFE_END → All IsDigit (decimal n)
 decimal_digits n small = let wide : n < 2 ^ 64 = omega arith in all_digit (decimal n) (decimal_is_IsNumeral n wide).0.1
 
 goes_on : (y : ℕ) (b m n : List ℕ) → All IsDigit (y ∷ b) → EndsDigits m → m ≡ (y ∷ b) ++ n → ⊥
@@ -39,7 +40,7 @@ first_digit b l [] m some digits e = absurd (omega arith)
 first_digit b l (d ∷ ds) m some digits e = let heads : d ≡ b = cc in subst IsDigit heads (All-head IsDigit d ds digits)
 
 -- a number begins with a digit
-begins : (b : ℕ) (l : List ℕ) (n : ℕ) (m : List ℕ) → n < 2 ^ 53 → b ∷ l ≡ decimal n ++ m → IsDigit b
+begins : (b : ℕ) (l : List ℕ) (n : ℕ) (m : List ℕ) → n < SAFE_END → b ∷ l ≡ decimal n ++ m → IsDigit b
 begins b l n m small e = let wide : n < 2 ^ 64 = omega arith in first_digit b l (decimal n) m (decimal_is_IsNumeral n wide).0.0 (decimal_digits n small) e
 
 -- behind a number no digit stands
@@ -58,7 +59,7 @@ follows_argument Now m ends = tt
 follows_argument Rand m ends = tt
 follows_argument (Number n) m ends = ends_digits m ends
 
-call_or_number : (b : ℕ) (l : List ℕ) (n : ℕ) (m : List ℕ) → 57 < b → n < 2 ^ 53 → b ∷ l ≡ decimal n ++ m → ⊥
+call_or_number : (b : ℕ) (l : List ℕ) (n : ℕ) (m : List ℕ) → 57 < b → n < SAFE_END → b ∷ l ≡ decimal n ++ m → ⊥
 call_or_number b l n m above small e = let digit = begins b l n m small e in omega arith
 
 -- an argument is determined by the bytes
@@ -107,7 +108,7 @@ argument_ended bytes a more (Some pair) valid follow is found =
 
 -- neither a call nor a number stands in front
 pub no_argument : (bytes digits more : List ℕ) → ((m : List ℕ) → bytes ≢ codes "Date.now()" ++ m) → ((m : List ℕ) → bytes ≢ codes "Math.random()" ++ m)
-    → bytes ≡ digits ++ more → All IsDigit digits → EndsDigits more → ((n : ℕ) → n < 2 ^ 53 → digits ≢ decimal n)
+    → bytes ≡ digits ++ more → All IsDigit digits → EndsDigits more → ((n : ℕ) → n < SAFE_END → digits ≢ decimal n)
     → (a : Argument) (m : List ℕ) → IsArgument a → EndsArgument m → bytes ≢ argument_text a ++ m
 no_argument bytes digits more no_now no_rand is are ends none Now m valid follow e = no_now m e
 no_argument bytes digits more no_now no_rand is are ends none Rand m valid follow e = no_rand m e

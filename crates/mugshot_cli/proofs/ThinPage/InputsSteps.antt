@@ -1,7 +1,7 @@
 -- The run over inputs, unfolded at one state.
 use Rattle.std.proofs.Common.{◌≡◌, ℕ, zero, suc, ◌+◌, ◌≤◌, ◌==◌, Bool, true, false, List, [], ◌∷◌, length, refl, sym, ◌∙◌, ap, subst, arith, if◌then◌else◌}
-use Rattle.input_log.specs.declared.item.LogItem.{LogItem}
-use Rattle.input_log.specs.declared.item.LogItem.TheVariants.{Load, Now, Rand}
+use Rattle.page_inputs.specs.declared.input.PageInput.{PageInput}
+use Rattle.page_inputs.specs.declared.input.PageInput.TheVariants.{Load, Now, Rand}
 use Rattle.mugshot_cli.specs.ThinPage.Machine.{State, advanced, asks, begun, contract, runs}
 use Rattle.mugshot_cli.specs.ThinPage.Run.{ends, follows, is_over, replay_from, steps}
 use Rattle.mugshot_cli.specs.ThinPage.InputsState.{EndsClock, EndsDraw, EndsIdle, ReplayState, Stepped, replay_rest}
@@ -13,15 +13,15 @@ use Rattle.mugshot_cli.specs.declared.thin_page.end.End.TheVariants.{Finished, B
 use Rattle.mugshot_cli.specs.declared.thin_page.end.Want.TheVariants as want
 use Rattle.input_log.specs.declared.item.Word.TheVariants as word
 
-pub no_step_left : (s : State) (inputs : List LogItem) → replay_from zero s inputs ≡ ends s (if is_over s.left inputs then Finished else Budget)
+pub no_step_left : (s : State) (inputs : List PageInput) → replay_from zero s inputs ≡ ends s (if is_over s.left inputs then Finished else Budget)
 unfolding replay_from
 no_step_left s inputs = refl
 
-pub one_step_more : (n : ℕ) (s : State) (inputs : List LogItem) → replay_from (suc n) s inputs ≡ follows (replay_from n) s s.left inputs
+pub one_step_more : (n : ℕ) (s : State) (inputs : List PageInput) → replay_from (suc n) s inputs ≡ follows (replay_from n) s s.left inputs
 unfolding replay_from
 one_step_more n s inputs = refl
 
-over_by : (n : ℕ) (s : State) (left : List Move) (inputs : List LogItem) → s.left ≡ left → is_over left inputs ≡ true → replay_from n s inputs ≡ ends s Finished
+over_by : (n : ℕ) (s : State) (left : List Move) (inputs : List PageInput) → s.left ≡ left → is_over left inputs ≡ true → replay_from n s inputs ≡ ends s Finished
 over_by zero s left inputs here over = no_step_left s inputs ∙ ap (λ (b : Bool). ends s (if b then Finished else Budget)) (ap (λ (l : List Move). is_over l inputs) here ∙ over)
 over_by (suc n) s [] [] here over = one_step_more n s [] ∙ ap (λ (l : List Move). follows (replay_from n) s l []) here
 over_by (suc n) s [] (item ∷ inputs) here over = absurd (cc)
@@ -31,7 +31,7 @@ over_by (suc n) s (move ∷ left) inputs here over = absurd (cc)
 pub over_ends : (r : ReplayState) → is_over r.state.left r.inputs ≡ true → replay_rest r ≡ ends r.state Finished
 over_ends r over = over_by r.left r.state r.state.left r.inputs refl over
 
-spent_by : (n : ℕ) (s : State) (inputs : List LogItem) → n ≡ 0 → is_over s.left inputs ≡ false → replay_from n s inputs ≡ ends s Budget
+spent_by : (n : ℕ) (s : State) (inputs : List PageInput) → n ≡ 0 → is_over s.left inputs ≡ false → replay_from n s inputs ≡ ends s Budget
 spent_by zero s inputs none on = no_step_left s inputs ∙ ap (λ (b : Bool). ends s (if b then Finished else Budget)) on
 spent_by (suc n) s inputs none on = absurd (omega arith)
 
@@ -40,7 +40,7 @@ pub spent_ends : (r : ReplayState) → is_over r.state.left r.inputs ≡ false �
 spent_ends r on none = spent_by r.left r.state r.inputs none on
 
 -- where steps are left, and this is left of the turn
-follows_by : (n m : ℕ) (s : State) (left : List Move) (inputs : List LogItem) → n ≡ m + 1 → s.left ≡ left → replay_from n s inputs ≡ follows (replay_from m) s left inputs
+follows_by : (n m : ℕ) (s : State) (left : List Move) (inputs : List PageInput) → n ≡ m + 1 → s.left ≡ left → replay_from n s inputs ≡ follows (replay_from m) s left inputs
 follows_by zero m s left inputs count here = absurd (omega arith)
 follows_by (suc n) m s left inputs count here =
     one_step_more n s inputs ∙ ap (λ (l : List Move). follows (replay_from n) s l inputs) here
@@ -94,7 +94,7 @@ ends_as r old end same is = (subst (λ (x : ReplayState). replay_rest x ≡ ends
 -- ---- steps: `r` is the run as it is kept, which is `old`, and `new` the one behind a step
 
 module _ (r old new : ReplayState) (same : r ≡ old) (count : r.left ≡ new.left + 1) where
-  made : (inputs : List LogItem) → new.consumed ≡ r.consumed + length inputs → replay_rest r ≡ steps r.state inputs (replay_rest new) → Stepped old new
+  made : (inputs : List PageInput) → new.consumed ≡ r.consumed + length inputs → replay_rest r ≡ steps r.state inputs (replay_rest new) → Stepped old new
   made inputs more is = record {
     inputs = inputs;
     count = (let e : r.left ≡ old.left = ap (λ (x : ReplayState). x.left) same in omega arith);
@@ -102,7 +102,7 @@ module _ (r old new : ReplayState) (same : r ≡ old) (count : r.left ≡ new.le
     is = subst (λ (x : ReplayState). replay_rest x ≡ steps x.state inputs (replay_rest new)) same is;
   }
 
-  pub turn_begins : (t : ℕ) (others : List LogItem) → runs old.state.left ≡ false → r.state.turns ≡ 0 → r.inputs ≡ Load t ∷ others → new.state ≡ begun r.state t → new.inputs ≡ others
+  pub turn_begins : (t : ℕ) (others : List PageInput) → runs old.state.left ≡ false → r.state.turns ≡ 0 → r.inputs ≡ Load t ∷ others → new.state ≡ begun r.state t → new.inputs ≡ others
       → new.consumed ≡ r.consumed + 1 → Stepped old new
   turn_begins t others idle first here state rest more =
       let none : r.state.left ≡ [] = idle_left r.state.left (ap (λ (x : ReplayState). runs x.state.left) same ∙ idle) in
@@ -129,7 +129,7 @@ module _ (r old new : ReplayState) (same : r ≡ old) (count : r.left ≡ new.le
       pass_by r.state.left refl (ap (λ (x : ReplayState). runs x.state.left) same ∙ busy) (ap (λ (x : ReplayState). asks x.state.left) same ∙ nothing) state rest more
 
   -- a step that asks the clock
-  pub reads_clock : (v : ℕ) (others : List LogItem) → asks old.state.left ≡ question.Clock → r.inputs ≡ Now v ∷ others → new.state ≡ advanced r.state r.state.left v → new.inputs ≡ others
+  pub reads_clock : (v : ℕ) (others : List PageInput) → asks old.state.left ≡ question.Clock → r.inputs ≡ Now v ∷ others → new.state ≡ advanced r.state r.state.left v → new.inputs ≡ others
       → new.consumed ≡ r.consumed + 1 → Stepped old new
   reads_clock v others clock here state rest more =
       let left = clock_left r.state.left (ap (λ (x : ReplayState). asks x.state.left) same ∙ clock) in
@@ -140,7 +140,7 @@ module _ (r old new : ReplayState) (same : r ≡ old) (count : r.left ≡ new.le
       ∙ sym (λ i. steps r.state (Now v ∷ []) (replay_from new.left (state_is i) (rest i))))
 
   -- a step that asks for a random word
-  pub draws_word : (w : ℕ) (others : List LogItem) → asks old.state.left ≡ question.Word → r.inputs ≡ Rand w ∷ others → new.state ≡ advanced r.state r.state.left w → new.inputs ≡ others
+  pub draws_word : (w : ℕ) (others : List PageInput) → asks old.state.left ≡ question.Word → r.inputs ≡ Rand w ∷ others → new.state ≡ advanced r.state r.state.left w → new.inputs ≡ others
       → new.consumed ≡ r.consumed + 1 → Stepped old new
   draws_word w others word here state rest more =
       let left = word_left r.state.left (ap (λ (x : ReplayState). asks x.state.left) same ∙ word) in

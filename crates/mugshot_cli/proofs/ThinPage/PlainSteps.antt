@@ -1,16 +1,18 @@
 -- The run over arrivals, unfolded at one state.
-use Rattle.std.proofs.Common.{◌≡◌, ℕ, zero, suc, ◌+◌, ◌<◌, ◌^◌, Bool, true, false, List, [], ◌∷◌, ◌++◌, refl, sym, ◌∙◌, ap, subst, arith, append_assoc, if◌then◌else◌}
+use Rattle.std.proofs.Common.{◌≡◌, ℕ, zero, suc, ◌+◌, ◌<◌, Bool, true, false, List, [], ◌∷◌, ◌++◌, refl, sym, ◌∙◌, ap, subst, arith, append_assoc, if◌then◌else◌}
 use Rattle.std.specs.Prelude.{All}
 use Rattle.std.proofs.lemmas.List.Elements.{All-head, All-tail}
 use Rattle.arrival_file.specs.declared.arrival.Arrival.{Arrival}
 use Rattle.arrival_file.specs.declared.arrival.Turn.{Turn}
 use Rattle.arrival_file.specs.declared.arrival.Turn.TheVariants as turn
 use Rattle.arrival_file.specs.Ranges.{IsInRange, IsTimely}
-use Rattle.input_log.specs.declared.item.LogItem.{LogItem}
-use Rattle.input_log.specs.declared.item.LogItem.TheVariants.{Load, Now, Rand}
+use Rattle.page_inputs.specs.declared.input.PageInput.{PageInput}
+use Rattle.page_inputs.specs.declared.input.PageInput.TheVariants.{Load, Now, Rand}
 use Rattle.mugshot_cli.specs.ThinPage.Machine.{State, advanced, asks, begun, contract, runs}
 use Rattle.mugshot_cli.specs.ThinPage.Run.{Answers, Run, answer, answers_of, asked, ends, first_or, goes_on, is_finished, moment, plain_from, steps, used}
-use Rattle.mugshot_cli.specs.ThinPage.PlainState.{IsAhead, IsInput, PlainState, rest_of}
+use Rattle.mugshot_cli.specs.ThinPage.PlainState.{IsAhead, PlainState, rest_of}
+use Rattle.mug_text.specs.declared.limits.TheConstants.{SAFE_END}
+use Rattle.page_inputs.specs.Inputs.{IsInput}
 use Rattle.mugshot_cli.specs.declared.thin_page.page.Move.{Move}
 use Rattle.mugshot_cli.specs.declared.thin_page.page.Move.TheVariants.{Pass, Clock, Draw, Print}
 use Rattle.mugshot_cli.specs.declared.thin_page.page.Question.TheVariants as question
@@ -64,7 +66,7 @@ moves_by (suc n) m s a left arrivals move more count here is =
 
 -- `r` is the state as it is kept, which is `old`, and `new` the one behind a step
 module _ (r old new : PlainState) (same : r ≡ old) (count : r.left ≡ new.left + 1) where
-  behind_old : (inputs : List LogItem) → rest_of r ≡ steps r.state inputs (rest_of new) → rest_of old ≡ steps old.state inputs (rest_of new)
+  behind_old : (inputs : List PageInput) → rest_of r ≡ steps r.state inputs (rest_of new) → rest_of old ≡ steps old.state inputs (rest_of new)
   behind_old inputs is = subst (λ (x : PlainState). rest_of x ≡ steps x.state inputs (rest_of new)) same is
 
   -- the next arrival begins its turn
@@ -84,7 +86,7 @@ module _ (r old new : PlainState) (same : r ≡ old) (count : r.left ≡ new.lef
       answers_are = answers ∙ ap (λ (t : ℕ). record { t = t; nows = arrival.nows; rands = arrival.rands }) time
 
   module _ (others : new.arrivals ≡ r.arrivals) where
-    moved : (left : List Move) (move : Move) (more : List Move) (v : ℕ) (inputs : List LogItem) → r.state.left ≡ left → left ≡ move ∷ more → v ≡ answer r.answers move → inputs ≡ asked r.answers move
+    moved : (left : List Move) (move : Move) (more : List Move) (v : ℕ) (inputs : List PageInput) → r.state.left ≡ left → left ≡ move ∷ more → v ≡ answer r.answers move → inputs ≡ asked r.answers move
         → new.state ≡ contract r.state move more v → new.answers ≡ used r.answers move → rest_of old ≡ steps old.state inputs (rest_of new)
     moved left move more v inputs here is value consumed state answers =
         behind_old inputs (
@@ -137,9 +139,9 @@ module _ (r old new : PlainState) (same : r ≡ old) (count : r.left ≡ new.lef
         draw_by r.state.left w refl (ap (λ (x : PlainState). runs x.state.left) same ∙ busy) (ap (λ (x : PlainState). asks x.state.left) same ∙ word) value state answers
 
 -- a step more in front of a rest
-pub ahead_by : (s : State) (inputs more all : List LogItem) (run mid rest : Run) → run ≡ steps s inputs mid → IsAhead more mid rest → all ≡ inputs ++ more → IsAhead all run rest
+pub ahead_by : (s : State) (inputs more all : List PageInput) (run mid rest : Run) → run ≡ steps s inputs mid → IsAhead more mid rest → all ≡ inputs ++ more → IsAhead all run rest
 ahead_by s inputs more all run mid rest is ahead whole = record {
-  inputs_are = ap (λ (r : Run). r.inputs) is ∙ ap (λ (l : List LogItem). inputs ++ l) ahead.inputs_are ∙ sym (append_assoc inputs more rest.inputs) ∙ ap (λ (l : List LogItem). l ++ rest.inputs) (sym whole);
+  inputs_are = ap (λ (r : Run). r.inputs) is ∙ ap (λ (l : List PageInput). inputs ++ l) ahead.inputs_are ∙ sym (append_assoc inputs more rest.inputs) ∙ ap (λ (l : List PageInput). l ++ rest.inputs) (sym whole);
   last_is = ap (λ (r : Run). r.last) is ∙ ahead.last_is;
   end_is = ap (λ (r : Run). r.end) is ∙ ahead.end_is;
 }
@@ -154,12 +156,9 @@ first_below n otherwise v (w ∷ values) is low all = let first : w < n = All-he
 
 -- the moment of the first arrival is in its range
 pub timely : (arrival : Arrival) (arrivals all : List Arrival) (t : ℕ) → all ≡ arrival ∷ arrivals → All IsInRange all → t ≡ moment arrival.turn → IsInput (Load t)
-timely arrival arrivals all t is ranges time = record {
-  valid = omega (arith, by_turn arrival.turn (All-head IsInRange arrival arrivals (subst (All IsInRange) is ranges)).moment, time);
-  input = refl;
-}
+timely arrival arrivals all t is ranges time = omega (arith, by_turn arrival.turn (All-head IsInRange arrival arrivals (subst (All IsInRange) is ranges)).moment, time)
   where
-    by_turn : (at : Turn) → IsTimely at → moment at < 2 ^ 53
+    by_turn : (at : Turn) → IsTimely at → moment at < SAFE_END
     by_turn (turn.Load t) timely = timely
 
 pub first_range : (arrival : Arrival) (arrivals all : List Arrival) → all ≡ arrival ∷ arrivals → All IsInRange all → IsInRange arrival

@@ -1,7 +1,7 @@
 -- The run from the inputs that a run over arrivals consumed.
 use Rattle.std.proofs.Common.{◌≡◌, ◌⊎◌, inl, inr, ℕ, zero, suc, ◌≤◌, Bool, List, [], ◌∷◌, refl, sym, ◌∙◌, ap, subst, arith, if◌then◌else◌}
 use Rattle.arrival_file.specs.declared.arrival.Arrival.{Arrival}
-use Rattle.input_log.specs.declared.item.LogItem.TheVariants.{Load, Now, Rand}
+use Rattle.page_inputs.specs.declared.input.PageInput.TheVariants.{Load, Now, Rand}
 use Rattle.mugshot_cli.specs.ThinPage.Machine.{State, begun, contract, start_state}
 use Rattle.mugshot_cli.specs.ThinPage.Run.{Answers, Run, answer, answers_of, ends, follows, from_inputs, goes_on, is_finished, is_over, moment, no_answers, plain, plain_from, replay_from, steps, used}
 use Rattle.mugshot_cli.specs.declared.thin_page.reading.Statement.{Statement}

@@ -4,10 +4,10 @@ use Rattle.std.proofs.lemmas.Grind.{flat_map-append}
 use Rattle.std.specs.List.{flat_map}
 use Rattle.std.proofs.lemmas.List.{append-nil}
 use Rattle.std.proofs.lemmas.List.Folds.{flat_map-map}
-use Rattle.input_log.specs.declared.item.LogItem.{LogItem}
-use Rattle.input_log.specs.declared.item.LogItem.TheVariants.{Head, Load, Now, Rand}
+use Rattle.page_inputs.specs.declared.input.PageInput.{PageInput}
+use Rattle.page_inputs.specs.declared.input.PageInput.TheVariants.{Load, Now, Rand}
 use Rattle.mugshot_cli.specs.ThinPage.Machine.{State, begun, contract}
-use Rattle.capture_engine.specs.Grouping.{text_of}
+use Rattle.capture_engine.specs.Acks.{text_of_lines}
 use Rattle.mugshot_cli.specs.ThinPage.Run.{Run, begins, ends, follows, replay_from, steps, visited}
 use Rattle.mugshot_cli.specs.ThinPage.Tracing.{last_lines, lines_after, log_line, log_lines, step_lines, trace_lines, trace_text, turn_lines}
 use Rattle.mugshot_cli.specs.ThinPage.InputsState.{IsTraced, RanOut, ReplayState, Stepped, replay_rest}
@@ -23,33 +23,30 @@ use Rattle.mugshot_cli.proofs.ThinPage.InputsSteps.{no_step_left, one_step_more}
 abbrev pub Begins : State → Run → Type 0
 Begins s run = (more : List State) × (visited run ≡ s ∷ more)
 
-begins_first : (next : State → List LogItem → Run) (s : State) (inputs : List LogItem) → Begins s (begins next s inputs)
+begins_first : (next : State → List PageInput → Run) (s : State) (inputs : List PageInput) → Begins s (begins next s inputs)
 begins_first next s [] = ([], refl)
 begins_first next s (Load t ∷ inputs) = by_turn (s.turns == 0)
   where
     by_turn : (b : Bool) → Begins s (if b then steps s (Load t ∷ []) (next (begun s t) inputs) else ends s (Diverged want.Turn word.Load))
     by_turn true = (visited (next (begun s t) inputs), refl)
     by_turn false = ([], refl)
-begins_first next s (Head base budget page ∷ inputs) = ([], refl)
 begins_first next s (Now v ∷ inputs) = ([], refl)
 begins_first next s (Rand w ∷ inputs) = ([], refl)
 
-follows_first : (next : State → List LogItem → Run) (s : State) (left : List Move) (inputs : List LogItem) → Begins s (follows next s left inputs)
+follows_first : (next : State → List PageInput → Run) (s : State) (left : List Move) (inputs : List PageInput) → Begins s (follows next s left inputs)
 follows_first next s [] inputs = begins_first next s inputs
 follows_first next s (Pass ∷ left) inputs = (visited (next (contract s Pass left 0) inputs), refl)
 follows_first next s (Clock ∷ left) [] = ([], refl)
 follows_first next s (Clock ∷ left) (Now v ∷ inputs) = (visited (next (contract s Clock left v) inputs), refl)
-follows_first next s (Clock ∷ left) (Head base budget page ∷ inputs) = ([], refl)
 follows_first next s (Clock ∷ left) (Load t ∷ inputs) = ([], refl)
 follows_first next s (Clock ∷ left) (Rand w ∷ inputs) = ([], refl)
 follows_first next s (Draw ∷ left) [] = ([], refl)
 follows_first next s (Draw ∷ left) (Rand w ∷ inputs) = (visited (next (contract s Draw left w) inputs), refl)
-follows_first next s (Draw ∷ left) (Head base budget page ∷ inputs) = ([], refl)
 follows_first next s (Draw ∷ left) (Load t ∷ inputs) = ([], refl)
 follows_first next s (Draw ∷ left) (Now v ∷ inputs) = ([], refl)
 follows_first next s (Print arguments ∷ left) inputs = (visited (next (contract s (Print arguments) left 0) inputs), refl)
 
-first_state : (n : ℕ) (s : State) (inputs : List LogItem) → Begins s (replay_from n s inputs)
+first_state : (n : ℕ) (s : State) (inputs : List PageInput) → Begins s (replay_from n s inputs)
 first_state zero s inputs = ([], ap visited (no_step_left s inputs))
 first_state (suc n) s inputs = let first = follows_first (replay_from n) s s.left inputs in (first.0, ap visited (one_step_more n s inputs) ∙ first.1)
 
@@ -85,31 +82,31 @@ traced_end lines start old new end so_far is same = record {
       omega (arith, so_far.count, none, kept));
 }
 
-pub end_lines : (lines : List (List ℕ)) (start old : ReplayState) (end : End) → IsTraced lines start old → replay_rest old ≡ ends old.state end → text_of (trace_lines (visited (replay_rest start))) ≡ text_of lines
-end_lines lines start old end so_far is = ap text_of (so_far.lines_are ∙ ap (λ (r : Run). lines ++ trace_lines (visited r)) is ∙ append-nil lines)
+pub end_lines : (lines : List (List ℕ)) (start old : ReplayState) (end : End) → IsTraced lines start old → replay_rest old ≡ ends old.state end → text_of_lines (trace_lines (visited (replay_rest start))) ≡ text_of_lines lines
+end_lines lines start old end so_far is = ap text_of_lines (so_far.lines_are ∙ ap (λ (r : Run). lines ++ trace_lines (visited r)) is ∙ append-nil lines)
 
 -- the text so far, and that of the steps to come
-pub text_split : (lines : List (List ℕ)) (start now : ReplayState) → IsTraced lines start now → text_of (trace_lines (visited (replay_rest start))) ≡ text_of lines ++ text_of (trace_lines (visited (replay_rest now)))
-text_split lines start now so_far = ap text_of so_far.lines_are ∙ flat_map-append (λ line. line) lines (trace_lines (visited (replay_rest now)))
+pub text_split : (lines : List (List ℕ)) (start now : ReplayState) → IsTraced lines start now → text_of_lines (trace_lines (visited (replay_rest start))) ≡ text_of_lines lines ++ text_of_lines (trace_lines (visited (replay_rest now)))
+text_split lines start now so_far = ap text_of_lines so_far.lines_are ∙ flat_map-append (λ line. line) lines (trace_lines (visited (replay_rest now)))
 
 -- the text around that of one step
 pub text_around : (lines : List (List ℕ)) (start old new : ReplayState) → IsTraced lines start old → Stepped old new
-    → text_of (trace_lines (visited (replay_rest start)))
-    ≡ text_of lines ++ (text_of (step_lines old.state.turns (length old.state.console) new.state) ++ text_of (trace_lines (visited (replay_rest new))))
+    → text_of_lines (trace_lines (visited (replay_rest start)))
+    ≡ text_of_lines lines ++ (text_of_lines (step_lines old.state.turns (length old.state.console) new.state) ++ text_of_lines (trace_lines (visited (replay_rest new))))
 text_around lines start old new so_far made =
     let added = step_lines old.state.turns (length old.state.console) new.state in
     text_split (lines ++ added) start new (traced_step lines start old new so_far made)
-    ∙ ap (λ (l : List ℕ). l ++ text_of (trace_lines (visited (replay_rest new)))) (flat_map-append (λ line. line) lines added)
-    ∙ append_assoc (text_of lines) (text_of added) (text_of (trace_lines (visited (replay_rest new))))
+    ∙ ap (λ (l : List ℕ). l ++ text_of_lines (trace_lines (visited (replay_rest new)))) (flat_map-append (λ line. line) lines added)
+    ∙ append_assoc (text_of_lines lines) (text_of_lines added) (text_of_lines (trace_lines (visited (replay_rest new))))
 
 -- a trace is its steps, and then the last line
-pub trace_split : (run : Run) → trace_text run ≡ text_of (trace_lines (visited run)) ++ text_of (last_lines run.end run.last (length run.inputs))
+pub trace_split : (run : Run) → trace_text run ≡ text_of_lines (trace_lines (visited run)) ++ text_of_lines (last_lines run.end run.last (length run.inputs))
 trace_split run = flat_map-append (λ line. line) (trace_lines (visited run)) (last_lines run.end run.last (length run.inputs))
 
 -- ---- a trace is printed: `r` is the run before its first step, and `now` the one after its last
 module _ (r : ReplayState) (run : Run) (is : replay_rest r ≡ run) where
-  pub split : trace_text run ≡ text_of (trace_lines (visited (replay_rest r))) ++ text_of (last_lines run.end run.last (length run.inputs))
-  split = trace_split run ∙ ap (λ (x : Run). text_of (trace_lines (visited x)) ++ text_of (last_lines run.end run.last (length run.inputs))) (sym is)
+  pub split : trace_text run ≡ text_of_lines (trace_lines (visited (replay_rest r))) ++ text_of_lines (last_lines run.end run.last (length run.inputs))
+  split = trace_split run ∙ ap (λ (x : Run). text_of_lines (trace_lines (visited x)) ++ text_of_lines (last_lines run.end run.last (length run.inputs))) (sym is)
 
   module _ (end : End) (now : ReplayState) (none : r.consumed ≡ 0) (over : RanOut end r now) where
     pub end_is : run.end ≡ end
@@ -123,10 +120,10 @@ module _ (r : ReplayState) (run : Run) (is : replay_rest r ≡ run) where
     last : last_lines run.end run.last (length run.inputs) ≡ last_lines end now.state now.consumed
     last = λ i. last_lines (end_is i) ((ap (λ (x : Run). x.last) (sym is) ∙ over.last_is) i) (sym inputs_are i)
 
-    pub whole : trace_text run ≡ text_of (trace_lines (visited (replay_rest r))) ++ text_of (last_lines end now.state now.consumed)
-    whole = split ∙ ap (λ (l : List (List ℕ)). text_of (trace_lines (visited (replay_rest r))) ++ text_of l) last
+    pub whole : trace_text run ≡ text_of_lines (trace_lines (visited (replay_rest r))) ++ text_of_lines (last_lines end now.state now.consumed)
+    whole = split ∙ ap (λ (l : List (List ℕ)). text_of_lines (trace_lines (visited (replay_rest r))) ++ text_of_lines l) last
 
 -- the text of a step: its turn, and then its lines
-pub step_text : (turns count : ℕ) (s : State) → text_of (step_lines turns count s) ≡ text_of (turn_lines turns s) ++ flat_map log_line (drop count s.console)
+pub step_text : (turns count : ℕ) (s : State) → text_of_lines (step_lines turns count s) ≡ text_of_lines (turn_lines turns s) ++ flat_map log_line (drop count s.console)
 step_text turns count s =
-    flat_map-append (λ line. line) (turn_lines turns s) (log_lines count s) ∙ ap (λ (l : List ℕ). text_of (turn_lines turns s) ++ l) (flat_map-map (λ line. line) log_line (drop count s.console))
+    flat_map-append (λ line. line) (turn_lines turns s) (log_lines count s) ∙ ap (λ (l : List ℕ). text_of_lines (turn_lines turns s) ++ l) (flat_map-map (λ line. line) log_line (drop count s.console))

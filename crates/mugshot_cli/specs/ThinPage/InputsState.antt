@@ -1,6 +1,6 @@
 -- What the code of a run over inputs keeps.
 use Rattle.std.specs.Prelude.{◌≡◌, ℕ, ◌+◌, List, ◌++◌, length, Option, Some, None}
-use Rattle.input_log.specs.declared.item.LogItem.{LogItem}
+use Rattle.page_inputs.specs.declared.input.PageInput.{PageInput}
 use Rattle.mugshot_cli.specs.ThinPage.Machine.{State}
 use Rattle.mugshot_cli.specs.ThinPage.Run.{Run, begins, draws, ends, reads, replay_from, steps, visited}
 use Rattle.mugshot_cli.specs.ThinPage.Tracing.{trace_lines}
@@ -11,7 +11,7 @@ use Rattle.mugshot_cli.specs.declared.thin_page.end.End.{End}
 pub record ReplayState : Type 0 where
   pub left : ℕ
   pub state : State
-  pub inputs : List LogItem
+  pub inputs : List PageInput
   pub consumed : ℕ
 
 -- the rest of the run
@@ -19,20 +19,20 @@ abbrev pub replay_rest : ReplayState → Run
 replay_rest r = replay_from r.left r.state r.inputs
 
 -- where steps are left, a state in which no turn runs ends the run so before these inputs
-abbrev pub EndsIdle : State → List LogItem → End → Type 0
-EndsIdle s inputs end = (next : State → List LogItem → Run) → begins next s inputs ≡ ends s end
+abbrev pub EndsIdle : State → List PageInput → End → Type 0
+EndsIdle s inputs end = (next : State → List PageInput → Run) → begins next s inputs ≡ ends s end
 
 -- where steps are left, a step that asks the clock ends it so
-abbrev pub EndsClock : List LogItem → End → Type 0
-EndsClock inputs end = (next : State → List LogItem → Run) (s : State) (left : List Move) → reads next s left inputs ≡ ends s end
+abbrev pub EndsClock : List PageInput → End → Type 0
+EndsClock inputs end = (next : State → List PageInput → Run) (s : State) (left : List Move) → reads next s left inputs ≡ ends s end
 
 -- where steps are left, a step that asks for a random word ends it so
-abbrev pub EndsDraw : List LogItem → End → Type 0
-EndsDraw inputs end = (next : State → List LogItem → Run) (s : State) (left : List Move) → draws next s left inputs ≡ ends s end
+abbrev pub EndsDraw : List PageInput → End → Type 0
+EndsDraw inputs end = (next : State → List PageInput → Run) (s : State) (left : List Move) → draws next s left inputs ≡ ends s end
 
 -- a page step was made
 pub record Stepped (old new : ReplayState) : Type 0 where
-  pub inputs : List LogItem
+  pub inputs : List PageInput
   pub count : new.left + 1 ≡ old.left
   pub consumed : new.consumed ≡ old.consumed + length inputs
   pub is : replay_rest old ≡ steps old.state inputs (replay_rest new)

@@ -1,10 +1,11 @@
 -- What the code of the runs keeps.
-use Rattle.std.specs.Prelude.{◌≡◌, ◌⊎◌, ℕ, ◌≤◌, true, false, List, [], ◌++◌}
+use Rattle.std.specs.Prelude.{◌≡◌, ◌⊎◌, ℕ, ◌≤◌, false, List, [], ◌++◌, map}
 use Rattle.arrival_file.specs.declared.arrival.Arrival.{Arrival}
+use Rattle.page_inputs.specs.Turns.{turns}
+use Rattle.page_inputs.specs.declared.input.PageInput.{PageInput}
+use Rattle.input_log.specs.Inputs.{logged}
 use Rattle.input_log.specs.declared.item.LogItem.{LogItem}
-use Rattle.input_log.specs.Items.{IsItem}
-use Rattle.input_log.specs.Kinds.{is_input}
-use Rattle.capture_engine.specs.Grouping.{grouped}
+use Rattle.capture_engine.specs.Frames.{AreFramesOf}
 use Rattle.capture_engine.specs.Outside.{Shown}
 use Rattle.capture_engine.specs.Recording.{Halted, Recorded, RecorderState}
 use Rattle.capture_engine.specs.declared.recorder.CaptureFault.{CaptureFault}
@@ -31,13 +32,8 @@ pub record RunsOn (r : PlainState) : Type 0 where
   pub left : 1 ≤ r.left
   pub unfinished : is_finished r.state.left r.arrivals ≡ false
 
--- an item in its range that a run consumes
-pub record IsInput (item : LogItem) : Type 0 where
-  pub valid : IsItem item
-  pub input : is_input item ≡ true
-
 -- one run is another's rest, after these inputs
-pub record IsAhead (inputs : List LogItem) (run rest : Run) : Type 0 where
+pub record IsAhead (inputs : List PageInput) (run rest : Run) : Type 0 where
   pub inputs_are : run.inputs ≡ inputs ++ rest.inputs
   pub last_is : run.last ≡ rest.last
   pub end_is : run.end ≡ rest.end
@@ -62,19 +58,14 @@ IsOver r = (whole : Run) × EndsIn whole r
 
 -- ---- the recording of a run
 
--- since `start`, some of these frames were committed and said; the others are those of the items in the open frame and of these inputs
-pub record Going (start now : Shown) (all : List (List LogItem)) (r : RecorderState) (inputs : List LogItem) : Type 0 where
-  pub frames : List (List LogItem)
-  pub current : List LogItem
-  pub so_far : Recorded start now frames current r
-  pub is : all ≡ frames ++ grouped current inputs
-
--- these inputs are recorded, after the items in the open frame
-abbrev pub RecordsAll : List LogItem → Shown → Shown → RecorderState → RecorderState → Type 0
+-- after its head these inputs are recorded, and their last turn is over
+abbrev pub RecordsAll : List PageInput → Shown → Shown → RecorderState → RecorderState → Type 0
 RecordsAll inputs now now' r r' =
-    (start : Shown) (frames : List (List LogItem)) (current : List LogItem) → Recorded start now frames current r → Recorded start now' (frames ++ grouped current inputs) [] r'
+    (start : Shown) (head : LogItem) → Recorded start now head [] [] r
+    → Recorded start now' head (map logged (turns inputs)) [] r'
 
 -- their recording was halted
-abbrev pub HaltsIn : List LogItem → CaptureFault → Shown → Shown → RecorderState → Type 0
+abbrev pub HaltsIn : List PageInput → CaptureFault → Shown → Shown → RecorderState → Type 0
 HaltsIn inputs fault now now' r =
-    (start : Shown) (frames : List (List LogItem)) (current : List LogItem) → Recorded start now frames current r → Halted fault start now' (frames ++ grouped current inputs)
+    (start : Shown) (head : LogItem) (frames : List (List LogItem)) → Recorded start now head [] [] r
+    → AreFramesOf head inputs frames → Halted fault start now' frames

@@ -1,5 +1,6 @@
 -- A thin page: nothing, or a script of statements that take a reading or log their arguments, without white space.
-use Rattle.std.specs.Prelude.{◌≡◌, ◌≢◌, ◌⊎◌, ℕ, ◌<◌, ◌≤◌, ◌^◌, List, [], ◌∷◌, ◌++◌, length, map, flat_map, All, codes, decimal}
+use Rattle.std.specs.Prelude.{◌≡◌, ◌≢◌, ◌⊎◌, ℕ, ◌<◌, ◌≤◌, List, [], ◌∷◌, ◌++◌, length, map, flat_map, All, codes, decimal}
+use Rattle.mug_text.specs.declared.limits.TheConstants.{SAFE_END}
 use Rattle.mugshot_cli.specs.declared.thin_page.reading.Argument.{Argument}
 use Rattle.mugshot_cli.specs.declared.thin_page.reading.Argument.TheVariants.{Now, Rand, Number}
 use Rattle.mugshot_cli.specs.declared.thin_page.reading.Statement.{Statement}
@@ -19,7 +20,7 @@ argument_text (Number n) = decimal n
 abbrev pub IsArgument : Argument → Type 0
 IsArgument Now = Unit {0}
 IsArgument Rand = Unit {0}
-IsArgument (Number n) = n < 2 ^ 53
+IsArgument (Number n) = n < SAFE_END
 
 -- a comma, 44, stands between arguments, and a parenthesis, 41, behind the last
 abbrev pub statement_text : Statement → List ℕ

@@ -3,9 +3,10 @@ use Rattle.std.specs.Prelude.{ℕ, zero, suc, ◌==◌, Bool, true, false, List,
 use Rattle.arrival_file.specs.declared.arrival.Arrival.{Arrival}
 use Rattle.arrival_file.specs.declared.arrival.Turn.{Turn}
 use Rattle.arrival_file.specs.declared.arrival.Turn.TheVariants as turn
+use Rattle.input_log.specs.Inputs.{item_of}
 use Rattle.input_log.specs.Kinds.{word_of}
-use Rattle.input_log.specs.declared.item.LogItem.{LogItem}
-use Rattle.input_log.specs.declared.item.LogItem.TheVariants.{Load, Now, Rand}
+use Rattle.page_inputs.specs.declared.input.PageInput.{PageInput}
+use Rattle.page_inputs.specs.declared.input.PageInput.TheVariants.{Load, Now, Rand}
 use Rattle.mugshot_cli.specs.ThinPage.Machine.{State, start_state, begun, contract}
 use Rattle.mugshot_cli.specs.declared.thin_page.page.Move.{Move}
 use Rattle.mugshot_cli.specs.declared.thin_page.page.Move.TheVariants.{Pass, Clock, Draw, Print}
@@ -19,7 +20,7 @@ use Rattle.input_log.specs.declared.item.Word.TheVariants as word
 pub record Run : Type 0 where
   pub before : List State
   pub last : State
-  pub inputs : List LogItem
+  pub inputs : List PageInput
   pub end : End
 
 -- the states that a run visits
@@ -31,7 +32,7 @@ abbrev pub ends : State → End → Run
 ends s end = record { before = []; last = s; inputs = []; end = end }
 
 -- a run that makes a step from a state, which consumes these inputs, and then goes on
-abbrev pub steps : State → List LogItem → Run → Run
+abbrev pub steps : State → List PageInput → Run → Run
 steps s inputs run = record { before = s ∷ run.before; last = run.last; inputs = inputs ++ run.inputs; end = run.end }
 
 -- ---- over arrivals
@@ -65,7 +66,7 @@ answer a Draw = first_or 0 a.rands
 answer a (Print arguments) = 0
 
 -- the input that an answer is
-abbrev pub asked : Answers → Move → List LogItem
+abbrev pub asked : Answers → Move → List PageInput
 asked a Pass = []
 asked a Clock = Now (answer a Clock) ∷ []
 asked a Draw = Rand (answer a Draw) ∷ []
@@ -102,31 +103,31 @@ plain budget statements arrivals = plain_from budget (start_state statements) no
 -- ---- over inputs
 
 -- no turn runs and no input is left
-abbrev pub is_over : List Move → List LogItem → Bool
+abbrev pub is_over : List Move → List PageInput → Bool
 is_over [] [] = true
-is_over [] (item ∷ inputs) = false
+is_over [] (input ∷ inputs) = false
 is_over (move ∷ left) inputs = false
 
 -- where no turn runs: the first turn is a load, and no turn follows it
-abbrev pub begins : (State → List LogItem → Run) → State → List LogItem → Run
+abbrev pub begins : (State → List PageInput → Run) → State → List PageInput → Run
 begins next s [] = ends s Finished
 begins next s (Load t ∷ inputs) = if s.turns == 0 then steps s (Load t ∷ []) (next (begun s t) inputs) else ends s (Diverged want.Turn word.Load)
-begins next s (item ∷ inputs) = ends s (Diverged (if s.turns == 0 then want.Load else want.Turn) (word_of item))
+begins next s (input ∷ inputs) = ends s (Diverged (if s.turns == 0 then want.Load else want.Turn) (word_of (item_of input)))
 
 -- a step that asks the clock: the next input is a reading
-abbrev pub reads : (State → List LogItem → Run) → State → List Move → List LogItem → Run
+abbrev pub reads : (State → List PageInput → Run) → State → List Move → List PageInput → Run
 reads next s left [] = ends s Cut
 reads next s left (Now v ∷ inputs) = steps s (Now v ∷ []) (next (contract s Clock left v) inputs)
-reads next s left (item ∷ inputs) = ends s (Diverged want.Now (word_of item))
+reads next s left (input ∷ inputs) = ends s (Diverged want.Now (word_of (item_of input)))
 
 -- a step that asks for a random word: the next input is one
-abbrev pub draws : (State → List LogItem → Run) → State → List Move → List LogItem → Run
+abbrev pub draws : (State → List PageInput → Run) → State → List Move → List PageInput → Run
 draws next s left [] = ends s Cut
 draws next s left (Rand w ∷ inputs) = steps s (Rand w ∷ []) (next (contract s Draw left w) inputs)
-draws next s left (item ∷ inputs) = ends s (Diverged want.Rand (word_of item))
+draws next s left (input ∷ inputs) = ends s (Diverged want.Rand (word_of (item_of input)))
 
 -- where steps are left
-abbrev pub follows : (State → List LogItem → Run) → State → List Move → List LogItem → Run
+abbrev pub follows : (State → List PageInput → Run) → State → List Move → List PageInput → Run
 follows next s [] inputs = begins next s inputs
 follows next s (Pass ∷ left) inputs = steps s [] (next (contract s Pass left 0) inputs)
 follows next s (Clock ∷ left) inputs = reads next s left inputs
@@ -134,10 +135,10 @@ follows next s (Draw ∷ left) inputs = draws next s left inputs
 follows next s (Print arguments ∷ left) inputs = steps s [] (next (contract s (Print arguments) left 0) inputs)
 
 -- from a state with so many page steps left
-unfoldable pub replay_from : ℕ → State → List LogItem → Run
+unfoldable pub replay_from : ℕ → State → List PageInput → Run
 replay_from zero s inputs = ends s (if is_over s.left inputs then Finished else Budget)
 replay_from (suc n) s inputs = follows (replay_from n) s s.left inputs
 
 -- the run of a page from inputs, within this budget
-abbrev pub from_inputs : ℕ → List Statement → List LogItem → Run
+abbrev pub from_inputs : ℕ → List Statement → List PageInput → Run
 from_inputs budget statements inputs = replay_from budget (start_state statements) inputs

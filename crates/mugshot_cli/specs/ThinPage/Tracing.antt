@@ -2,7 +2,7 @@
 use Rattle.std.specs.Prelude.{ℕ, nat_lt, List, [], ◌∷◌, ◌++◌, length, drop, map, codes, decimal, if◌then◌else◌}
 use Rattle.mugshot_cli.specs.ThinPage.Machine.{State}
 use Rattle.mugshot_cli.specs.ThinPage.Run.{Run, visited}
-use Rattle.capture_engine.specs.Grouping.{text_of}
+use Rattle.capture_engine.specs.Acks.{text_of_lines}
 use Rattle.mugshot_cli.specs.declared.thin_page.end.End.{End}
 use Rattle.mugshot_cli.specs.declared.thin_page.end.End.TheVariants.{Finished, Budget, Cut, Diverged}
 
@@ -54,4 +54,4 @@ trace run = trace_lines (visited run) ++ last_lines run.end run.last (length run
 
 -- the text of a run
 abbrev pub trace_text : Run → List ℕ
-trace_text run = text_of (trace run)
+trace_text run = text_of_lines (trace run)

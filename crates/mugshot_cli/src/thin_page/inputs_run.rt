@@ -1,7 +1,7 @@
 // The run of a thin page over inputs, as a session is replayed.
 ghost use Rattle.std.specs.Prelude.{◌≡◌, ◌≢◌, ◌≤◌, true, false, ◌∷◌, IfOk, MatchResult, OnOk};
 ghost use Rattle.input_log.specs.declared.item.TheConstants.{STEPS_LIMIT};
-ghost use Rattle.input_log.specs.declared.item.LogItem.TheVariants.{Load, Now, Rand};
+ghost use Rattle.page_inputs.specs.declared.input.PageInput.TheVariants.{Load, Now, Rand};
 ghost use Rattle.mugshot_cli.specs.ThinPage.Machine.{State, asks, runs};
 ghost use Rattle.mugshot_cli.specs.ThinPage.Run.{from_inputs, is_over};
 ghost use Rattle.mugshot_cli.specs.ThinPage.InputsState.{EndsClock, EndsDraw, EndsIdle, Stepped, Went, replay_rest};
@@ -11,6 +11,7 @@ use crate::thin_page::page::{Question, ThinPage};
 use crate::thin_page::reading::Statement;
 use input_log::LogItem;
 use mug_text::NoMemory;
+use page_inputs::PageInput;
 use std::alloc::Global;
 use std::marker::Model;
 
@@ -20,7 +21,7 @@ pub struct InputsRun<'a> {
     page: ThinPage,
     // The page steps that are left of the budget.
     left: u64,
-    inputs: &'a [LogItem],
+    inputs: &'a [PageInput],
     consumed: u64,
 }
 
@@ -37,56 +38,59 @@ impl<'a> Model for InputsRun<'a> {
 }
 
 // The moment of the first turn, and the inputs after it.
-fn next_load(inputs: &[LogItem]) -> Result<(u64, &[LogItem]), End>
-    ensures { MatchResult result (λ pair. inputs.now ≡ Load pair.0 ∷ pair.1.now) (λ end. (s : State) → s.turns ≡ 0 → EndsIdle s inputs.now end) }
+fn next_load(inputs: &[PageInput]) -> Result<(u64, &[PageInput]), End>
+    ensures { MatchResult result (λ pair. inputs.now ≡ Load pair.0 ∷ pair.1.now)
+        (λ end. (s : State) → s.turns ≡ 0 → EndsIdle s inputs.now end) }
 {
     match inputs {
-        [LogItem::Load { t }, others @ ..] => Ok((*t, others)),
+        [PageInput::Load { t }, others @ ..] => Ok((*t, others)),
         [] => Err(End::Finished),
-        [item, ..] => Err(End::Diverged {
+        [input, ..] => Err(End::Diverged {
             wanted: Want::Load,
-            found: item.word(),
+            found: LogItem::of_input(input).word(),
         }),
     }
 }
 
 // How the run ends where the first turn is over.
-fn after_turn(inputs: &[LogItem]) -> End
+fn after_turn(inputs: &[PageInput]) -> End
     ensures { (s : State) → s.turns ≢ 0 → EndsIdle s inputs.now result }
 {
     match inputs {
         [] => End::Finished,
-        [item, ..] => End::Diverged {
+        [input, ..] => End::Diverged {
             wanted: Want::Turn,
-            found: item.word(),
+            found: LogItem::of_input(input).word(),
         },
     }
 }
 
 // The next reading of the clock, and the inputs after it.
-fn next_now(inputs: &[LogItem]) -> Result<(u64, &[LogItem]), End>
-    ensures { MatchResult result (λ pair. inputs.now ≡ Now pair.0 ∷ pair.1.now) (λ end. EndsClock inputs.now end) }
+fn next_now(inputs: &[PageInput]) -> Result<(u64, &[PageInput]), End>
+    ensures { MatchResult result (λ pair. inputs.now ≡ Now pair.0 ∷ pair.1.now)
+        (λ end. EndsClock inputs.now end) }
 {
     match inputs {
-        [LogItem::Now { v }, others @ ..] => Ok((*v, others)),
+        [PageInput::Now { v }, others @ ..] => Ok((*v, others)),
         [] => Err(End::Cut), // No reading is left.
-        [item, ..] => Err(End::Diverged {
+        [input, ..] => Err(End::Diverged {
             wanted: Want::Now,
-            found: item.word(),
+            found: LogItem::of_input(input).word(),
         }),
     }
 }
 
 // The next random word, and the inputs after it.
-fn next_rand(inputs: &[LogItem]) -> Result<(u32, &[LogItem]), End>
-    ensures { MatchResult result (λ pair. inputs.now ≡ Rand pair.0 ∷ pair.1.now) (λ end. EndsDraw inputs.now end) }
+fn next_rand(inputs: &[PageInput]) -> Result<(u32, &[PageInput]), End>
+    ensures { MatchResult result (λ pair. inputs.now ≡ Rand pair.0 ∷ pair.1.now)
+        (λ end. EndsDraw inputs.now end) }
 {
     match inputs {
-        [LogItem::Rand { w }, others @ ..] => Ok((*w, others)),
+        [PageInput::Rand { w }, others @ ..] => Ok((*w, others)),
         [] => Err(End::Cut),
-        [item, ..] => Err(End::Diverged {
+        [input, ..] => Err(End::Diverged {
             wanted: Want::Rand,
-            found: item.word(),
+            found: LogItem::of_input(input).word(),
         }),
     }
 }
@@ -96,11 +100,13 @@ impl<'a> InputsRun<'a> {
     pub fn new(
         alloc: Global,
         statements: &[Statement],
-        inputs: &'a [LogItem],
+        inputs: &'a [PageInput],
         budget: u64,
     ) -> Result<InputsRun<'a>, NoMemory>
         requires { budget ≤ STEPS_LIMIT }
-        ensures { IfOk result (λ run. (replay_rest run ≡ from_inputs budget statements.now inputs.now) × (run.consumed ≡ 0)) }
+        ensures { IfOk result
+            (λ run. (replay_rest run ≡ from_inputs budget statements.now inputs.now)
+            × (run.consumed ≡ 0)) }
     {
         let page = ThinPage::load(alloc, statements)?;
         Ok(InputsRun {

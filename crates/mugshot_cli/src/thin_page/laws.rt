@@ -7,8 +7,10 @@ ghost use Rattle.mugshot_cli.specs.declared.thin_page.reading.Statement.{Stateme
 
 /// The run from the inputs that a run over arrivals consumed visits the same states, consumes the same inputs and ends the same way. A thin page has one turn at most.
 pub fn replay_is_the_plain_run()
-    ensures { (budget : ℕ) (statements : List Statement) (arrivals : List Arrival) → 1 ≤ budget → (arrivals ≡ []) ⊎ ((arrival : Arrival) × (arrivals ≡ arrival ∷ []))
-        → from_inputs budget statements (plain budget statements arrivals).inputs ≡ plain budget statements arrivals }
+    ensures { (budget : ℕ) (statements : List Statement) (arrivals : List Arrival) → 1 ≤ budget
+        → (arrivals ≡ []) ⊎ ((arrival : Arrival) × (arrivals ≡ arrival ∷ []))
+        → from_inputs budget statements
+        (plain budget statements arrivals).inputs ≡ plain budget statements arrivals }
 {}
 
 /// The finished file of a capture recovers to its head and its inputs, and the run from these is the recorded one: its replay is neither damaged nor does it diverge.

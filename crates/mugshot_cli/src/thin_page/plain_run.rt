@@ -3,17 +3,20 @@ ghost use Rattle.std.specs.Prelude.{◌≡◌, ◌+◌, ◌≤◌, ◌<◌, ◌^
 ghost use Rattle.arrival_file.specs.Ranges.{IsInRange};
 ghost use Rattle.mugshot_cli.specs.ThinPage.Machine.{asks, runs};
 ghost use Rattle.input_log.specs.declared.item.TheConstants.{STEPS_LIMIT};
-ghost use Rattle.input_log.specs.declared.item.LogItem.TheVariants.{Now, Rand};
+ghost use Rattle.arrival_file.specs.declared.limits.TheConstants.{WORD_END};
+ghost use Rattle.mug_text.specs.declared.limits.TheConstants.{SAFE_END};
+ghost use Rattle.page_inputs.specs.Inputs.{IsInput};
+ghost use Rattle.page_inputs.specs.declared.input.PageInput.TheVariants.{Now, Rand};
 ghost use Rattle.mugshot_cli.specs.ThinPage.Run.{ends, first_or, is_finished, moment, plain, steps};
 ghost use Rattle.mugshot_cli.specs.declared.thin_page.end.PlainEnd.{PlainEnd};
-ghost use Rattle.mugshot_cli.specs.ThinPage.PlainState.{IsAhead, IsInput, RunsOn, rest_of, run_end};
+ghost use Rattle.mugshot_cli.specs.ThinPage.PlainState.{IsAhead, RunsOn, rest_of, run_end};
 
 use crate::thin_page::end::PlainEnd;
 use crate::thin_page::page::{Question, ThinPage};
 use crate::thin_page::reading::Statement;
 use arrival_file::{Arrival, Turn};
-use input_log::LogItem;
 use mug_text::NoMemory;
+use page_inputs::PageInput;
 use std::alloc::Global;
 use std::marker::Model;
 
@@ -31,7 +34,9 @@ pub struct PlainRun<'a> {
 }
 
 impl<'a> Model for PlainRun<'a> {
-    ghost use Rattle.std.specs.Prelude.{◌≡◌, ◌+◌, ◌≤◌, ◌<◌, ◌^◌, All};
+    ghost use Rattle.std.specs.Prelude.{◌≡◌, ◌+◌, ◌≤◌, ◌<◌, All};
+    ghost use Rattle.mug_text.specs.declared.limits.TheConstants.{SAFE_END};
+    ghost use Rattle.arrival_file.specs.declared.limits.TheConstants.{WORD_END};
     ghost use Rattle.arrival_file.specs.Ranges.{IsInRange};
     ghost use Rattle.input_log.specs.declared.item.TheConstants.{STEPS_LIMIT};
     ghost use Rattle.mugshot_cli.specs.ThinPage.PlainState.{PlainState};
@@ -40,7 +45,7 @@ impl<'a> Model for PlainRun<'a> {
 
     ghost view = { λ r. record { left = r.left; state = r.page; answers = record { t = r.t; nows = r.nows.now; rands = r.rands.now }; arrivals = r.arrivals.now } };
 
-    ghost invariant = { λ r. (r.page.steps + r.left ≤ STEPS_LIMIT) × (r.t < 2 ^ 53) × All (λ v. v < 2 ^ 53) r.nows.now × All (λ w. w < 2 ^ 32) r.rands.now × All IsInRange r.arrivals.now };
+    ghost invariant = { λ r. (r.page.steps + r.left ≤ STEPS_LIMIT) × (r.t < SAFE_END) × All (λ v. v < SAFE_END) r.nows.now × All (λ w. w < WORD_END) r.rands.now × All IsInRange r.arrivals.now };
 }
 
 // The first of the values, or this one where there is none, and the others.
@@ -111,7 +116,8 @@ impl<'a> PlainRun<'a> {
     /// How the run ends here, where it does.
     #[tactic(auto, using(crate::proofs::ThinPage::PlainSteps::finished_ends, crate::proofs::ThinPage::PlainSteps::spent_ends))]
     pub fn end(&self) -> Option<PlainEnd>
-        ensures { MatchOption result (RunsOn self.now) (λ end. rest_of self.now ≡ ends self.now.state (run_end end)) }
+        ensures { MatchOption result (RunsOn self.now)
+            (λ end. rest_of self.now ≡ ends self.now.state (run_end end)) }
     {
         if self.is_finished() {
             return Some(PlainEnd::Finished);
@@ -123,10 +129,12 @@ impl<'a> PlainRun<'a> {
     }
 
     // Starts the next turn, which is a step.
-    fn start_turn(&mut self) -> Option<LogItem>
+    fn start_turn(&mut self) -> Option<PageInput>
         requires idle { runs self.old.state.left ≡ false }
         requires on { RunsOn self.old }
-        ensures { MatchOption result ⊥ (λ item. IsInput item × (self.new.left + 1 ≡ self.old.left) × (rest_of self.old ≡ steps self.old.state (item ∷ []) (rest_of self.new))) }
+        ensures { MatchOption result ⊥
+            (λ item. IsInput item × (self.new.left + 1 ≡ self.old.left)
+            × (rest_of self.old ≡ steps self.old.state (item ∷ []) (rest_of self.new))) }
     {
         let (arrival, others) = self.arrivals.split_first()?;
         let t = moment(arrival.turn);
@@ -136,7 +144,7 @@ impl<'a> PlainRun<'a> {
         self.nows = arrival.nows.as_slice();
         self.rands = arrival.rands.as_slice();
         self.arrivals = others;
-        Some(LogItem::Load { t })
+        Some(PageInput::Load { t })
     }
 
     // Makes a step that asks nothing.
@@ -144,7 +152,9 @@ impl<'a> PlainRun<'a> {
         requires busy { runs self.old.state.left ≡ true }
         requires asks { asks self.old.state.left ≡ Question.Nothing }
         requires on { RunsOn self.old }
-        ensures { OnOk result ((self.new.left + 1 ≡ self.old.left) × (rest_of self.old ≡ steps self.old.state [] (rest_of self.new))) }
+        ensures { OnOk result
+            ((self.new.left + 1 ≡ self.old.left)
+            × (rest_of self.old ≡ steps self.old.state [] (rest_of self.new))) }
     {
         self.page.step(0)?;
         self.left -= 1;
@@ -156,7 +166,9 @@ impl<'a> PlainRun<'a> {
         requires busy { runs self.old.state.left ≡ true }
         requires asks { asks self.old.state.left ≡ Question.Clock }
         requires on { RunsOn self.old }
-        ensures { IfOk result (λ v. (v < 2 ^ 53) × (self.new.left + 1 ≡ self.old.left) × (rest_of self.old ≡ steps self.old.state (Now v ∷ []) (rest_of self.new))) }
+        ensures { IfOk result
+            (λ v. (v < SAFE_END) × (self.new.left + 1 ≡ self.old.left)
+            × (rest_of self.old ≡ steps self.old.state (Now v ∷ []) (rest_of self.new))) }
     {
         let (v, others) = next_now(self.nows, self.t);
         self.page.step(v)?;
@@ -170,7 +182,9 @@ impl<'a> PlainRun<'a> {
         requires busy { runs self.old.state.left ≡ true }
         requires asks { asks self.old.state.left ≡ Question.Word }
         requires on { RunsOn self.old }
-        ensures { IfOk result (λ w. (w < 2 ^ 32) × (self.new.left + 1 ≡ self.old.left) × (rest_of self.old ≡ steps self.old.state (Rand w ∷ []) (rest_of self.new))) }
+        ensures { IfOk result
+            (λ w. (w < WORD_END) × (self.new.left + 1 ≡ self.old.left)
+            × (rest_of self.old ≡ steps self.old.state (Rand w ∷ []) (rest_of self.new))) }
     {
         let (w, others) = next_rand(self.rands);
         self.page.step(w as u64)?;
@@ -180,9 +194,11 @@ impl<'a> PlainRun<'a> {
     }
 
     // Makes a page step, and gives the input that it consumed.
-    fn page_step(&mut self) -> Result<Option<LogItem>, NoMemory>
+    fn page_step(&mut self) -> Result<Option<PageInput>, NoMemory>
         requires on { RunsOn self.old }
-        ensures { IfOk result (λ input. IfSome input IsInput × (self.new.left + 1 ≡ self.old.left) × (rest_of self.old ≡ steps self.old.state (option_to_list input) (rest_of self.new))) }
+        ensures { IfOk result
+            (λ input. IfSome input IsInput × (self.new.left + 1 ≡ self.old.left)
+            × (rest_of self.old ≡ steps self.old.state (option_to_list input) (rest_of self.new))) }
     {
         if !self.page.runs() {
             return Ok(self.start_turn());
@@ -194,18 +210,21 @@ impl<'a> PlainRun<'a> {
             }
             Question::Clock => {
                 let v = self.read_clock()?;
-                Ok(Some(LogItem::Now { v }))
+                Ok(Some(PageInput::Now { v }))
             }
             Question::Word => {
                 let w = self.draw()?;
-                Ok(Some(LogItem::Rand { w }))
+                Ok(Some(PageInput::Rand { w }))
             }
         }
     }
 
     /// Runs up to the next input, and gives it; none is left where the run has ended.
-    pub fn next(&mut self) -> Result<Option<LogItem>, NoMemory>
-        ensures { IfOk result (λ input. MatchOption input (IsAhead [] (rest_of self.old) (rest_of self.new) × ((end : PlainEnd) × (rest_of self.new ≡ ends self.new.state (run_end end))))
+    pub fn next(&mut self) -> Result<Option<PageInput>, NoMemory>
+        ensures { IfOk result
+            (λ input. MatchOption input
+            (IsAhead [] (rest_of self.old) (rest_of self.new)
+            × ((end : PlainEnd) × (rest_of self.new ≡ ends self.new.state (run_end end))))
             (λ item. IsInput item × IsAhead (item ∷ []) (rest_of self.old) (rest_of self.new))) }
     {
         'steps: while self.end().is_none() {

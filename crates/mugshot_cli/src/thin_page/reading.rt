@@ -30,7 +30,8 @@ pub enum Statement {
 
 // The bytes behind this prefix.
 fn past<'a>(bytes: &'a [u8], prefix: &[u8]) -> Option<&'a [u8]>
-    ensures { MatchOption result ((more : List ℕ) → bytes.now ≢ prefix.now ++ more) (λ more. bytes.now ≡ prefix.now ++ more.now) }
+    ensures { MatchOption result ((more : List ℕ) → bytes.now ≢ prefix.now ++ more)
+        (λ more. bytes.now ≡ prefix.now ++ more.now) }
 {
     bytes.strip_prefix(prefix)
 }
@@ -57,7 +58,8 @@ fn ends_argument(bytes: &[u8]) -> bool
 
 // The argument, where it ends there.
 fn ended(argument: Argument, more: &[u8]) -> Option<(Argument, &[u8])>
-    ensures { MatchOption result (EndsArgument more.now → ⊥) (λ pair. EndsArgument more.now × (pair.0 ≡ argument) × (pair.1.now ≡ more.now)) }
+    ensures { MatchOption result (EndsArgument more.now → ⊥)
+        (λ pair. EndsArgument more.now × (pair.0 ≡ argument) × (pair.1.now ≡ more.now)) }
 {
     if ends_argument(more) {
         Some((argument, more))
@@ -68,7 +70,11 @@ fn ended(argument: Argument, more: &[u8]) -> Option<(Argument, &[u8])>
 
 // The argument in front, and the bytes behind it.
 fn read_argument(bytes: &[u8]) -> Option<(Argument, &[u8])>
-    ensures { MatchOption result ((argument : Argument) (more : List ℕ) → IsArgument argument → EndsArgument more → bytes.now ≢ argument_text argument ++ more) (λ pair. IsArgument pair.0 × EndsArgument pair.1.now × (bytes.now ≡ argument_text pair.0 ++ pair.1.now)) }
+    ensures { MatchOption result
+        ((argument : Argument) (more : List ℕ) → IsArgument argument → EndsArgument more
+        → bytes.now ≢ argument_text argument ++ more)
+        (λ pair. IsArgument pair.0 × EndsArgument pair.1.now
+        × (bytes.now ≡ argument_text pair.0 ++ pair.1.now)) }
 {
     if let Some(more) = past(bytes, b"Date.now()") {
         return ended(Argument::Now, more);
@@ -88,7 +94,10 @@ fn read_arguments(
     alloc: Global,
     bytes: &[u8],
 ) -> Result<Option<(Listed<Argument>, &[u8])>, NoMemory>
-    ensures { IfOk result (λ found. MatchOption found ((arguments : List Argument) (more : List ℕ) → HasArguments bytes.now arguments more → ⊥) (λ pair. HasArguments bytes.now pair.0 pair.1.now)) }
+    ensures { IfOk result
+        (λ found. MatchOption found
+        ((arguments : List Argument) (more : List ℕ) → HasArguments bytes.now arguments more → ⊥)
+        (λ pair. HasArguments bytes.now pair.0 pair.1.now)) }
 {
     let mut arguments = Vec::new(alloc);
     let mut rest = bytes;
@@ -110,7 +119,10 @@ fn read_arguments(
 
 // The statement in front, and the bytes behind it.
 fn read_statement(alloc: Global, bytes: &[u8]) -> Result<Option<(Statement, &[u8])>, NoMemory>
-    ensures { IfOk result (λ found. MatchOption found ((statement : Statement) (more : List ℕ) → HasStatement bytes.now statement more → ⊥) (λ pair. HasStatement bytes.now pair.0 pair.1.now)) }
+    ensures { IfOk result
+        (λ found. MatchOption found
+        ((statement : Statement) (more : List ℕ) → HasStatement bytes.now statement more → ⊥)
+        (λ pair. HasStatement bytes.now pair.0 pair.1.now)) }
 {
     if let Some(more) = past(bytes, b"Date.now()") {
         return Ok(Some((Statement::Now, more)));
@@ -136,7 +148,10 @@ fn ends_script(bytes: &[u8]) -> bool
 
 // The statements up to the end of the script.
 fn read_statements(alloc: Global, bytes: &[u8]) -> Result<Option<Listed<Statement>>, NoMemory>
-    ensures { IfOk result (λ found. MatchOption found ((statements : List Statement) → AreStatements bytes.now statements → ⊥) (λ statements. AreStatements bytes.now statements)) }
+    ensures { IfOk result
+        (λ found. MatchOption found
+        ((statements : List Statement) → AreStatements bytes.now statements → ⊥)
+        (λ statements. AreStatements bytes.now statements)) }
 {
     let mut statements = Vec::new(alloc);
     let mut rest = bytes;
@@ -159,7 +174,9 @@ fn read_statements(alloc: Global, bytes: &[u8]) -> Result<Option<Listed<Statemen
 
 /// Reads the statements of a thin page.
 pub fn read_thin(alloc: Global, page: &[u8]) -> Result<Option<Listed<Statement>>, NoMemory>
-    ensures { IfOk result (λ found. MatchOption found ((statements : List Statement) → IsThin page.now statements → ⊥) (λ statements. IsThin page.now statements)) }
+    ensures { IfOk result
+        (λ found. MatchOption found ((statements : List Statement) → IsThin page.now statements → ⊥)
+        (λ statements. IsThin page.now statements)) }
 {
     if page.is_empty() {
         return Ok(Some(Listed::of(Vec::new(alloc))));

@@ -28,7 +28,8 @@ fn end_word(end: PlainEnd) -> &'static [u8]
 
 impl Summary {
     pub fn line(&self) -> Line
-        ensures { result ≡ summary (run_end self.now.end) self.now.turns self.now.steps self.now.inputs self.now.frames }
+        ensures { result ≡ summary
+            (run_end self.now.end) self.now.turns self.now.steps self.now.inputs self.now.frames }
     {
         let mut line = Line::new();
         line.push(end_word(self.end));

@@ -1,6 +1,6 @@
 // The lines of a replay.
 ghost use Rattle.std.specs.Prelude.{◌≡◌, ◌≤◌, drop, flat_map, length};
-ghost use Rattle.capture_engine.specs.Grouping.{text_of};
+ghost use Rattle.capture_engine.specs.Acks.{text_of_lines};
 ghost use Rattle.mugshot_cli.specs.Outside.{stream};
 ghost use Rattle.mugshot_cli.specs.Printing.{Puts};
 ghost use Rattle.mugshot_cli.specs.ThinPage.Tracing.{last_line, last_lines, log_line, step_lines, turn_line, turn_lines};
@@ -56,7 +56,8 @@ fn put_turn<O: Sink>(
     page: &ThinPage,
     turns: u64,
 ) -> Result<(), PrintFault>
-    ensures { Puts result (text_of (turn_lines turns page.now)) lines.old lines.new (stream O.Sink out.old) (stream O.Sink out.new) }
+    ensures { Puts result (text_of_lines (turn_lines turns page.now)) lines.old lines.new
+        (stream O.Sink out.old) (stream O.Sink out.new) }
 {
     if page.turns() <= turns {
         return Ok(());
@@ -66,7 +67,8 @@ fn put_turn<O: Sink>(
 
 // `log TEXT`
 fn put_log<O: Sink>(lines: &mut Lines, out: &mut O, text: &[u8]) -> Result<(), PrintFault>
-    ensures { Puts result (log_line text.now) lines.old lines.new (stream O.Sink out.old) (stream O.Sink out.new) }
+    ensures { Puts result (log_line text.now) lines.old lines.new (stream O.Sink out.old)
+        (stream O.Sink out.new) }
 {
     lines.put(out, b"log ")?;
     lines.put(out, text)?;
@@ -74,7 +76,8 @@ fn put_log<O: Sink>(lines: &mut Lines, out: &mut O, text: &[u8]) -> Result<(), P
 }
 
 fn put_logs<O: Sink>(lines: &mut Lines, out: &mut O, texts: &[Bytes]) -> Result<(), PrintFault>
-    ensures { Puts result (flat_map log_line texts.now) lines.old lines.new (stream O.Sink out.old) (stream O.Sink out.new) }
+    ensures { Puts result (flat_map log_line texts.now) lines.old lines.new (stream O.Sink out.old)
+        (stream O.Sink out.new) }
 {
     for text in texts {
         put_log(lines, out, text.as_slice())?;
@@ -90,7 +93,8 @@ pub fn put_step<O: Sink>(
     turns: u64,
     count: usize,
 ) -> Result<(), PrintFault>
-    ensures { Puts result (text_of (step_lines turns count page.now)) lines.old lines.new (stream O.Sink out.old) (stream O.Sink out.new) }
+    ensures { Puts result (text_of_lines (step_lines turns count page.now)) lines.old lines.new
+        (stream O.Sink out.old) (stream O.Sink out.new) }
 {
     put_turn(lines, out, page, turns)?;
     put_logs(lines, out, after(page.console(), count))
@@ -105,7 +109,9 @@ fn put_last_line<O: Sink>(
     inputs: u64,
 ) -> Result<(), PrintFault>
     requires { length word.now ≤ 40 }
-    ensures { Puts result (last_line word.now page.now.turns page.now.steps inputs) lines.old lines.new (stream O.Sink out.old) (stream O.Sink out.new) }
+    ensures { Puts result
+        (last_line word.now page.now.turns page.now.steps inputs) lines.old lines.new
+        (stream O.Sink out.old) (stream O.Sink out.new) }
 {
     let line = last_line(word, page.turns(), page.steps(), inputs);
     lines.put(out, line.as_slice())
@@ -119,7 +125,8 @@ pub fn put_last<O: Sink>(
     page: &ThinPage,
     inputs: u64,
 ) -> Result<(), PrintFault>
-    ensures { Puts result (text_of (last_lines end page.now inputs)) lines.old lines.new (stream O.Sink out.old) (stream O.Sink out.new) }
+    ensures { Puts result (text_of_lines (last_lines end page.now inputs)) lines.old lines.new
+        (stream O.Sink out.old) (stream O.Sink out.new) }
 {
     match end {
         End::Finished => put_last_line(lines, out, b"end", page, inputs),

@@ -35,7 +35,8 @@ fn push_argument(moves: &mut Vec<Move>, argument: Argument) -> Result<(), NoMemo
 }
 
 fn push_arguments(moves: &mut Vec<Move>, arguments: &[Argument]) -> Result<(), NoMemory>
-    ensures { OnOk result (moves.new.items ≡ moves.old.items ++ flat_map argument_moves arguments.now) }
+    ensures { OnOk result
+        (moves.new.items ≡ moves.old.items ++ flat_map argument_moves arguments.now) }
 {
     for argument in arguments {
         push_argument(moves, *argument)?;
@@ -44,7 +45,9 @@ fn push_arguments(moves: &mut Vec<Move>, arguments: &[Argument]) -> Result<(), N
 }
 
 fn push_log(alloc: Global, moves: &mut Vec<Move>, arguments: &[Argument]) -> Result<(), NoMemory>
-    ensures { OnOk result (moves.new.items ≡ moves.old.items ++ (Pass ∷ Pass ∷ (flat_map argument_moves arguments.now ++ Print arguments.now ∷ []))) }
+    ensures { OnOk result
+        (moves.new.items ≡ moves.old.items ++
+        (Pass ∷ Pass ∷ (flat_map argument_moves arguments.now ++ Print arguments.now ∷ []))) }
 {
     let copied = arguments.to_vec(alloc)?;
     push(moves, Move::Pass)?;

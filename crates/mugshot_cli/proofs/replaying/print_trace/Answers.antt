@@ -1,6 +1,6 @@
 use Rattle.std.proofs.Common.{◌∙◌, sym}
 use Rattle.std.proofs.lemmas.Result.{err_from_is_err_and}
-use Rattle.capture_engine.specs.Grouping.{text_of}
+use Rattle.capture_engine.specs.Acks.{text_of_lines}
 use Rattle.mugshot_cli.specs.Outside.{stream}
 use Rattle.mugshot_cli.specs.ThinPage.InputsState.{replay_rest}
 use Rattle.mugshot_cli.specs.ThinPage.Run.{visited}
@@ -14,7 +14,7 @@ returns-in_err-end-clause-err g c =
     let p = err_from_is_err_and c.from_residual.result c.from_residual.ensures.1 in
     let is = c.in-Ok.ensures.0 in
     rw (p.1, p.2) (none_first (stream g.O.Sink c.args.out.now) (stream g.O.Sink c.put_steps.new.out) c.in_err-end.field-0.0 _ _ c.new-lines.ensures (sym (split c.in-Ok.run' _ is))
-    (broke_first c.new-lines.result (stream g.O.Sink c.args.out.now) (stream g.O.Sink c.put_steps.new.out) c.in_err-end.field-0.0 (text_of (trace_lines (visited (replay_rest c.in-Ok.run')))) _ c.in_err-end.ensures.err))
+    (broke_first c.new-lines.result (stream g.O.Sink c.args.out.now) (stream g.O.Sink c.put_steps.new.out) c.in_err-end.field-0.0 (text_of_lines (trace_lines (visited (replay_rest c.in-Ok.run')))) _ c.in_err-end.ensures.err))
 
 pub returns-in_err-put_end-clause-err : goal.returns-in_err-put_end-clause-err
 returns-in_err-put_end-clause-err g c =
@@ -22,7 +22,7 @@ returns-in_err-put_end-clause-err g c =
     let is = c.in-Ok.ensures.0 in
     let steps = c.in_ok-end.ensures in
     rw (p.1, p.2) (none_first (stream g.O.Sink c.args.out.now) (stream g.O.Sink c.put_end.new.out) c.in_err-put_end.field-0.0 _ _ c.new-lines.ensures (sym (whole c.in-Ok.run' _ is _ c.put_steps.new.run c.in-Ok.ensures.1 steps.over))
-    (broke_after (stream g.O.Sink c.put_end.new.out) c.in_err-put_end.field-0.0 (text_of (trace_lines (visited (replay_rest c.in-Ok.run')))) _ steps.ok c.in_err-put_end.ensures.puts.err))
+    (broke_after (stream g.O.Sink c.put_end.new.out) c.in_err-put_end.field-0.0 (text_of_lines (trace_lines (visited (replay_rest c.in-Ok.run')))) _ steps.ok c.in_err-put_end.ensures.puts.err))
 
 pub returns-clause-end : goal.returns-clause-end
 returns-clause-end g c = end_is c.in-Ok.run' _ c.in-Ok.ensures.0 _ c.put_steps.new.run c.in-Ok.ensures.1 c.in_ok-end.ensures.over

@@ -1,7 +1,7 @@
 use Rattle.std.proofs.Common.{◌≡◌, ℕ, List, [], ◌++◌, length, sym, ◌∙◌, ap, arith, subst}
 use Rattle.std.proofs.lemmas.Result.{err_from_is_err_and}
 use Rattle.std.proofs.lemmas.Grind.{flat_map-append}
-use Rattle.capture_engine.specs.Grouping.{text_of}
+use Rattle.capture_engine.specs.Acks.{text_of_lines}
 use Rattle.mugshot_cli.specs.Outside.{stream}
 use Rattle.mugshot_cli.specs.Printing.{Adds}
 use Rattle.mugshot_cli.specs.ThinPage.InputsState.{replay_rest}
@@ -35,12 +35,12 @@ steps-preserved g c =
     let added = step_lines c.steps.run.state.turns (length c.steps.run.state.console) c.step.new.self.state in
     let same : step_lines c.turns-turns.result (length c.console-count.result.now) c.page-in-steps-2.result.now ≡ added = (λ i. step_lines (turns i) (count i) (c.page-in-steps-2.ensures i)) in
     let put = c.in_ok-put_step.ensures in
-    let whole : text_of (texts ++ added) ≡ text_of texts ++ text_of (step_lines c.turns-turns.result (length c.console-count.result.now) c.page-in-steps-2.result.now) =
-    flat_map-append (λ line. line) texts added ∙ ap (λ (l : List (List ℕ)). text_of texts ++ text_of l) (sym same) in (
+    let whole : text_of_lines (texts ++ added) ≡ text_of_lines texts ++ text_of_lines (step_lines c.turns-turns.result (length c.console-count.result.now) c.page-in-steps-2.result.now) =
+    flat_map-append (λ line. line) texts added ∙ ap (λ (l : List (List ℕ)). text_of_lines texts ++ text_of_lines l) (sym same) in (
       texts ++ added,
       traced_step texts _ _ _ c.steps.invariant.1 made,
       subst (λ (l : List ℕ). Adds l c.args.lines.now c.put_step.new.lines (stream g.O.Sink c.args.out.now) (stream g.O.Sink c.put_step.new.out)) (sym whole)
-          (adds_then (text_of texts) (text_of (step_lines c.turns-turns.result (length c.console-count.result.now) c.page-in-steps-2.result.now)) c.steps.invariant.2 put.ok),
+          (adds_then (text_of_lines texts) (text_of_lines (step_lines c.turns-turns.result (length c.console-count.result.now) c.page-in-steps-2.result.now)) c.steps.invariant.2 put.ok),
       omega (arith, c.steps.invariant.3, put.later),
     )
 
@@ -55,5 +55,5 @@ returns-in_err-put_step-clause-err g c =
     let same : step_lines c.turns-turns.result (length c.console-count.result.now) c.page-in-steps-2.result.now ≡ added = (λ i. step_lines (turns i) (count i) (c.page-in-steps-2.ensures i)) in
     let around = text_around texts _ _ _ c.steps.invariant.1 made in
     rw (p.1, p.2)
-    (broke_within (stream g.O.Sink c.put_step.new.out) c.in_err-put_step.field-0.0 _ (text_of texts) (text_of (step_lines c.turns-turns.result (length c.console-count.result.now) c.page-in-steps-2.result.now)) _
-    (around ∙ ap (λ (l : List (List ℕ)). text_of texts ++ (text_of l ++ text_of (trace_lines (visited (replay_rest c.step.new.self))))) (sym same)) c.steps.invariant.2 c.in_err-put_step.ensures.err)
+    (broke_within (stream g.O.Sink c.put_step.new.out) c.in_err-put_step.field-0.0 _ (text_of_lines texts) (text_of_lines (step_lines c.turns-turns.result (length c.console-count.result.now) c.page-in-steps-2.result.now)) _
+    (around ∙ ap (λ (l : List (List ℕ)). text_of_lines texts ++ (text_of_lines l ++ text_of_lines (trace_lines (visited (replay_rest c.step.new.self))))) (sym same)) c.steps.invariant.2 c.in_err-put_step.ensures.err)

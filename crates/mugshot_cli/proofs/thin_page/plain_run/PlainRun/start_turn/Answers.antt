@@ -1,6 +1,8 @@
-use Rattle.std.proofs.Common.{◌≡◌, ◌∷◌, ℕ, ◌<◌, ◌^◌, List, refl, sym, arith, ap, rules, subst}
+use Rattle.std.proofs.Common.{◌≡◌, ◌∷◌, ℕ, ◌<◌, List, refl, sym, arith, ap, rules, subst}
 use Rattle.std.specs.Prelude.{All}
 use Rattle.mugshot_cli.specs.ThinPage.Machine.{State}
+use Rattle.mug_text.specs.declared.limits.TheConstants.{SAFE_END}
+use Rattle.arrival_file.specs.declared.limits.TheConstants.{WORD_END}
 use Rattle.mugshot_cli.specs.ThinPage.PlainState.{PlainState}
 use Rattle.mugshot_cli.proofs.ThinPage.PlainSteps.{first_range, other_ranges, timely, turn_begins}
 use Rattle.mugshot_cli.proofs.thin_page.plain_run.PlainRun.start_turn.Goals as goal
@@ -26,8 +28,8 @@ invariant_of-self c =
     let steps = ap (λ (s : State). s.steps) c.begin.ensures in
     let kept = c.self.invariant.0 in (
       omega arith,
-      (timely _ _ _ _ all c.self.invariant.4 c.moment-t.ensures).valid,
-      subst (λ (l : List ℕ). All (λ v. v < 2 ^ 53) l) (sym c.as_slice-self-inside.ensures) first.nows,
-      subst (λ (l : List ℕ). All (λ w. w < 2 ^ 32) l) (sym c.as_slice-self-inside-2.ensures) first.rands,
+      timely _ _ _ _ all c.self.invariant.4 c.moment-t.ensures,
+      subst (λ (l : List ℕ). All (λ v. v < SAFE_END) l) (sym c.as_slice-self-inside.ensures) first.nows,
+      subst (λ (l : List ℕ). All (λ w. w < WORD_END) l) (sym c.as_slice-self-inside-2.ensures) first.rands,
       other_ranges _ _ _ all c.self.invariant.4,
     )

@@ -1,32 +1,14 @@
 //! Records what a page takes in from outside, and replays it.
 #![tactic(auto)]
 
-mod capturing;
-mod command;
-mod damage;
-mod lines;
-mod listing;
-mod outcome;
-mod printing;
-mod refusal;
-mod replaying;
-mod session;
-#[cfg(test)]
-mod tests;
-mod thin_page;
-mod top;
-
-use command::{Command, UsageFault, read_words};
 use mug_disk::FileDisk;
 use mug_outside::{StdSink, StdSource};
 use mug_text::{Bytes, NoMemory};
-use outcome::{Outcome, Status};
-use refusal::say;
+use mugshot_cli::{Command, Outcome, Status, UsageFault, mugshot, read_words, say};
 use std::alloc::Global;
 use std::fs::{File, OpenOptions};
 use std::process::ExitCode;
 use std::{fs, io, str};
-use top::mugshot;
 
 // The words without the program's name. Words that aren't UTF-8 are no command, like no words.
 fn words(rt: &HostRuntime) -> Result<Vec<String>, NoMemory> {

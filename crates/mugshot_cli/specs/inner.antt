@@ -1,0 +1,2 @@
+-- What the code keeps, and no public contract cites.
+pub mod Recording
