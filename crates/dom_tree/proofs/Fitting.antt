@@ -1,6 +1,5 @@
 -- Nodes that fit still fit where what ties them together stays.
 use Rattle.std.proofs.Common.{◌≡◌, ℕ, zero, suc, ◌<◌, ◌≤◌, true, false, cond, List, [], ◌∷◌, ◌++◌, length, get_or, set, Option, Some, None, is_some, refl, sym, ap, subst, ◌∙◌, arith, ⊎_elim, length-append}
-use Rattle.std.specs.Prelude.{OnOk, Result, Ok, Err}
 use Rattle.std.proofs.lemmas.Bool.{cases_eq, cases_lt, false≢true}
 use Rattle.std.proofs.lemmas.Option.{slice_get-get_or, slice_get_past}
 use Rattle.std.specs.List.{slice_get}
@@ -9,10 +8,10 @@ use Rattle.html_profile.specs.declared.document.DocAttribute.{DocAttribute}
 use Rattle.dom_tree.specs.Nodes.{parent_in, children_in, is_text_in, is_document_in, has_value_in, is_text_kind, is_document_kind, parent_of, children_of, is_text, is_one, times, Ends, Fits}
 use Rattle.dom_tree.specs.Changes.{changed}
 use Rattle.dom_tree.specs.Names.{with_attributes, with_text, with_own_value, keeps_value, keeps_value_in}
-use Rattle.dom_tree.specs.declared.parts.DomNode.{DomNode}
+use Rattle.dom_tree.specs.Node.{DomNode}
 use Rattle.dom_tree.specs.declared.parts.Kind.{Kind}
 use Rattle.dom_tree.specs.declared.parts.Kind.TheVariants.{Document, Element, Text}
-use Rattle.dom_tree.proofs.Items.{length_changed, set_is_changed, at_changed, beside_changed}
+use Rattle.dom_tree.proofs.Items.{length_changed, at_changed, beside_changed}
 use Rattle.dom_tree.proofs.Ways.{Ends_more}
 
 Ends_same : (old new : ℕ → Option ℕ) → ((x : ℕ) → new x ≡ old x) → (k : ℕ) (x : Option ℕ) → Ends old k x → Ends new k x
@@ -53,7 +52,7 @@ kept_at r f i nodes same x =
     (λ apart. ap r (beside_changed f i nodes x apart))
     (cases_eq i x)
 
-module _ (nodes : List DomNode) (fits : Fits nodes) (i : ℕ) (d : DomNode) (inside : i < length nodes) where
+module _ (nodes : List DomNode) (fits : Fits nodes) (i : ℕ) where
   changed_fits : (f : DomNode → DomNode) → parent_in (option_map f (slice_get nodes i)) ≡ parent_in (slice_get nodes i) → children_in (option_map f (slice_get nodes i)) ≡ children_in (slice_get nodes i)
       → is_text_in (option_map f (slice_get nodes i)) ≡ is_text_in (slice_get nodes i) → is_document_in (option_map f (slice_get nodes i)) ≡ is_document_in (slice_get nodes i)
       → has_value_in (option_map f (slice_get nodes i)) ≡ has_value_in (slice_get nodes i) → keeps_value_in (option_map f (slice_get nodes i)) ≡ keeps_value_in (slice_get nodes i) → Fits (changed f i nodes)
@@ -61,24 +60,26 @@ module _ (nodes : List DomNode) (fits : Fits nodes) (i : ℕ) (d : DomNode) (ins
       kept_fits nodes (changed f i nodes) fits (let e = length_changed f i nodes in omega arith) (kept_at parent_in f i nodes p) (kept_at children_in f i nodes c) (λ x within. kept_at is_text_in f i nodes t x)
       (kept_at is_document_in f i nodes k) (λ x. kept_at has_value_in f i nodes h x ∙ fits.values x ∙ sym (kept_at keeps_value_in f i nodes v x))
 
-  here : slice_get nodes i ≡ Some (get_or nodes i d)
-  here = slice_get-get_or nodes i d inside
+  -- what a reader finds in a node that is there or not
+  both : {Y : Type 0} (r : Option DomNode → Y) (f : DomNode → DomNode) → ((n : DomNode) → slice_get nodes i ≡ Some n → r (Some (f n)) ≡ r (Some n)) → (o : Option DomNode) → slice_get nodes i ≡ o
+      → r (option_map f o) ≡ r o
+  both r f same None is = refl
+  both r f same (Some n) is = same n is
 
-  same_here : {Y : Type 0} (r : Option DomNode → Y) (f : DomNode → DomNode) → r (Some (f (get_or nodes i d))) ≡ r (Some (get_or nodes i d)) → r (option_map f (slice_get nodes i)) ≡ r (slice_get nodes i)
-  same_here r f same = ap (λ o. r (option_map f o)) here ∙ same ∙ ap r (sym here)
+  same_here : {Y : Type 0} (r : Option DomNode → Y) (f : DomNode → DomNode) → ((n : DomNode) → slice_get nodes i ≡ Some n → r (Some (f n)) ≡ r (Some n)) → r (option_map f (slice_get nodes i)) ≡ r (slice_get nodes i)
+  same_here r f same = both r f same (slice_get nodes i) refl
 
-  pub attributes_fit : (new : List DocAttribute) → Fits (set nodes i (record (get_or nodes i d) { attributes = new }))
-  attributes_fit new =
-      let f : DomNode → DomNode = λ node. record node { attributes = new } in
-      subst Fits (sym (set_is_changed f i nodes d inside)) (changed_fits f (same_here parent_in f refl) (same_here children_in f refl) (same_here is_text_in f refl) (same_here is_document_in f refl)
-      (same_here has_value_in f refl) (same_here keeps_value_in f refl))
+  pub attributes_fit : (g : List DocAttribute → List DocAttribute) → Fits (changed (with_attributes g) i nodes)
+  attributes_fit g =
+      let f = with_attributes g in
+      changed_fits f (same_here parent_in f (λ n is. refl)) (same_here children_in f (λ n is. refl)) (same_here is_text_in f (λ n is. refl)) (same_here is_document_in f (λ n is. refl))
+      (same_here has_value_in f (λ n is. refl)) (same_here keeps_value_in f (λ n is. refl))
 
-  pub value_fits : (value : List ℕ) → keeps_value_in (slice_get nodes i) ≡ true → Fits (set nodes i (record (get_or nodes i d) { value = Some value }))
+  pub value_fits : (value : List ℕ) → keeps_value_in (slice_get nodes i) ≡ true → Fits (changed (with_own_value value) i nodes)
   value_fits value keeps =
       let f = with_own_value value in
-      let had : has_value_in (Some (get_or nodes i d)) ≡ true = ap has_value_in (sym here) ∙ fits.values i ∙ keeps in
-      subst Fits (sym (set_is_changed f i nodes d inside)) (changed_fits f (same_here parent_in f refl) (same_here children_in f refl) (same_here is_text_in f refl) (same_here is_document_in f refl)
-      (same_here has_value_in f (sym had)) (same_here keeps_value_in f refl))
+      changed_fits f (same_here parent_in f (λ n is. refl)) (same_here children_in f (λ n is. refl)) (same_here is_text_in f (λ n is. refl)) (same_here is_document_in f (λ n is. refl))
+      (same_here has_value_in f (λ n is. sym (ap has_value_in (sym is) ∙ fits.values i ∙ keeps))) (same_here keeps_value_in f (λ n is. refl))
 
   text_kind : (k : Kind) → is_text_kind k ≡ true → is_document_kind k ≡ false
   text_kind Document is = absurd (false≢true is)
@@ -90,21 +91,15 @@ module _ (nodes : List DomNode) (fits : Fits nodes) (i : ℕ) (d : DomNode) (ins
   text_keeps (Element name) is = absurd (false≢true is)
   text_keeps (Text text) is = refl
 
-  pub text_fits : (text : List ℕ) → is_text nodes i ≡ true → Fits (set nodes i (record (get_or nodes i d) { kind = Text text }))
-  text_fits text is =
+  pub text_fits : (text : List ℕ) → is_text nodes i ≡ true → Fits (changed (with_text text) i nodes)
+  text_fits text is_one =
       let f = with_text text in
-      let was : is_text_kind (get_or nodes i d).kind ≡ true = ap is_text_in (sym here) ∙ is in
-      subst Fits (sym (set_is_changed f i nodes d inside))
-      (changed_fits f (same_here parent_in f refl) (same_here children_in f refl) (same_here is_text_in f (sym was)) (same_here is_document_in f (sym (text_kind (get_or nodes i d).kind was)))
-      (same_here has_value_in f refl) (same_here keeps_value_in f (sym (text_keeps (get_or nodes i d).kind was))))
-
-pub attributes_ok : {T E : Type 0} (r : Result T E) (f : List DocAttribute → List DocAttribute) (nodes : List DomNode) (i : ℕ) (d : DomNode) (new : List DocAttribute) → i < length nodes
-    → OnOk r (new ≡ f (get_or nodes i d).attributes) → OnOk r (set nodes i (record (get_or nodes i d) { attributes = new }) ≡ changed (with_attributes f) i nodes)
-attributes_ok (Ok v) f nodes i d new inside is = ap (λ l. set nodes i (record (get_or nodes i d) { attributes = l })) is ∙ set_is_changed (with_attributes f) i nodes d inside
-attributes_ok (Err e) f nodes i d new inside is = tt
+      changed_fits f (same_here parent_in f (λ n is. refl)) (same_here children_in f (λ n is. refl)) (same_here is_text_in f (λ n is. sym (ap is_text_in (sym is) ∙ is_one)))
+      (same_here is_document_in f (λ n is. sym (text_kind n.kind (ap is_text_in (sym is) ∙ is_one))))
+      (same_here has_value_in f (λ n is. refl)) (same_here keeps_value_in f (λ n is. sym (text_keeps n.kind (ap is_text_in (sym is) ∙ is_one))))
 
 -- one more node, outside the document
-grown_same : {Y : Type 0} (r : Option DomNode → Y) (node : DomNode) → r (Some node) ≡ r None → (nodes : List DomNode) (x : ℕ) → r (slice_get (nodes ++ node ∷ []) x) ≡ r (slice_get nodes x)
+pub grown_same : {X Y : Type 0} (r : Option X → Y) (node : X) → r (Some node) ≡ r None → (nodes : List X) (x : ℕ) → r (slice_get (nodes ++ node ∷ []) x) ≡ r (slice_get nodes x)
 grown_same r node same [] zero = same
 grown_same r node same [] (suc x) = refl
 grown_same r node same (n ∷ nodes) zero = refl

@@ -12,7 +12,7 @@ use Rattle.html_profile.specs.Numbering.{parent_in as above_in, is_text_content,
 use Rattle.dom_tree.specs.Nodes.{parent_in, children_in, is_text_in, is_text_kind, parent_of, children_of, is_text, is_one, times, way_up, ancestors, Fits}
 use Rattle.dom_tree.specs.Changes.{changed, with_parent, with_children, at_end, left_at, appended, would_cycle}
 use Rattle.dom_tree.specs.Reading.{kind_of, numbers_in, made_of, node_of, IsFront}
-use Rattle.dom_tree.specs.declared.parts.DomNode.{DomNode}
+use Rattle.dom_tree.specs.Node.{DomNode}
 use Rattle.dom_tree.proofs.Items.{length_changed, at_changed, beside_changed}
 use Rattle.dom_tree.proofs.Kids.{unequal}
 use Rattle.dom_tree.proofs.Fitting.{grown_before, grown_last}
@@ -114,7 +114,7 @@ module _ (nodes : List DomNode) (fits : Fits nodes) (m : ℕ) (childless : child
   off_from (suc k) (Some x) apart =
       ap (λ b. b || list_any (λ y. y == m) (way_up (parent_of nodes) k (parent_of nodes x))) (unequal x m (λ is. apart (ap Some is))) ∙ off_from k (parent_of nodes x) (not_above x)
 
-  off : (p : ℕ) → list_any (λ x. x == m) (ancestors nodes p) ≡ false
+  pub off : (p : ℕ) → list_any (λ x. x == m) (ancestors nodes p) ≡ false
   off p = off_from (length nodes) (parent_of nodes p) (not_above p)
 
 -- one more node is read

@@ -5,22 +5,22 @@ use Rattle.std.specs.List.{remove, insert}
 use Rattle.dom_tree.specs.Nodes.{times}
 use Rattle.dom_tree.specs.Changes.{without, at_end, put_before}
 
-times_yes : (c x : ℕ) (xs : List ℕ) → (x == c) ≡ true → times c (x ∷ xs) ≡ 1 + times c xs
+pub times_yes : (c x : ℕ) (xs : List ℕ) → (x == c) ≡ true → times c (x ∷ xs) ≡ 1 + times c xs
 times_yes c x xs hit = ap (λ b. cond b 1 0 + times c xs) hit
 
-times_no : (c x : ℕ) (xs : List ℕ) → (x == c) ≡ false → times c (x ∷ xs) ≡ times c xs
+pub times_no : (c x : ℕ) (xs : List ℕ) → (x == c) ≡ false → times c (x ∷ xs) ≡ times c xs
 times_no c x xs miss = ap (λ b. cond b 1 0 + times c xs) miss ∙ zero-add (times c xs)
 
-without_yes : (c x : ℕ) (xs : List ℕ) → (x == c) ≡ true → without c (x ∷ xs) ≡ without c xs
+pub without_yes : (c x : ℕ) (xs : List ℕ) → (x == c) ≡ true → without c (x ∷ xs) ≡ without c xs
 without_yes c x xs hit = ap (λ b. cond (not b) (x ∷ without c xs) (without c xs)) hit
 
-without_no : (c x : ℕ) (xs : List ℕ) → (x == c) ≡ false → without c (x ∷ xs) ≡ x ∷ without c xs
+pub without_no : (c x : ℕ) (xs : List ℕ) → (x == c) ≡ false → without c (x ∷ xs) ≡ x ∷ without c xs
 without_no c x xs miss = ap (λ b. cond (not b) (x ∷ without c xs) (without c xs)) miss
 
-before_yes : (b c x : ℕ) (xs : List ℕ) → (x == b) ≡ true → put_before b c (x ∷ xs) ≡ c ∷ x ∷ xs
+pub before_yes : (b c x : ℕ) (xs : List ℕ) → (x == b) ≡ true → put_before b c (x ∷ xs) ≡ c ∷ x ∷ xs
 before_yes b c x xs hit = ap (λ t. cond t (c ∷ x ∷ xs) (x ∷ put_before b c xs)) hit
 
-before_no : (b c x : ℕ) (xs : List ℕ) → (x == b) ≡ false → put_before b c (x ∷ xs) ≡ x ∷ put_before b c xs
+pub before_no : (b c x : ℕ) (xs : List ℕ) → (x == b) ≡ false → put_before b c (x ∷ xs) ≡ x ∷ put_before b c xs
 before_no b c x xs miss = ap (λ t. cond t (c ∷ x ∷ xs) (x ∷ put_before b c xs)) miss
 
 pub unequal : (x y : ℕ) → x ≢ y → (x == y) ≡ false
@@ -40,29 +40,6 @@ without_none c (x ∷ xs) none =
     (λ hit. let e = times_yes c x xs hit in absurd (omega arith))
     (λ miss. without_no c x xs miss ∙ ap (λ l. x ∷ l) (without_none c xs (sym (times_no c x xs miss) ∙ none)))
     (cases_Bool (x == c))
-
-pub remove_is_without : (c : ℕ) (xs : List ℕ) (i : ℕ) → times c xs ≡ 1 → i < length xs → get_or xs i 0 ≡ c → remove xs i ≡ without c xs
-remove_is_without c [] i once inside is = absurd (omega arith)
-remove_is_without c (x ∷ xs) zero once inside is =
-    let hit = eq-eqb x c is in
-    let e = times_yes c x xs hit in
-    sym (without_yes c x xs hit ∙ without_none c xs (omega arith))
-remove_is_without c (x ∷ xs) (suc i) once inside is =
-    let more = stands c xs i (omega arith) is in
-    ⊎_elim
-    (λ hit. let e = times_yes c x xs hit in absurd (omega arith))
-    (λ miss. ap (λ l. x ∷ l) (remove_is_without c xs i (sym (times_no c x xs miss) ∙ once) (omega arith) is) ∙ sym (without_no c x xs miss))
-    (cases_Bool (x == c))
-
-pub insert_is_before : (b c : ℕ) (xs : List ℕ) (i : ℕ) → times b xs ≡ 1 → i < length xs → get_or xs i 0 ≡ b → insert xs i c ≡ put_before b c xs
-insert_is_before b c [] i once inside is = absurd (omega arith)
-insert_is_before b c (x ∷ xs) zero once inside is = sym (before_yes b c x xs (eq-eqb x b is))
-insert_is_before b c (x ∷ xs) (suc i) once inside is =
-    let more = stands b xs i (omega arith) is in
-    ⊎_elim
-    (λ hit. let e = times_yes b x xs hit in absurd (omega arith))
-    (λ miss. ap (λ l. x ∷ l) (insert_is_before b c xs i (sym (times_no b x xs miss) ∙ once) (omega arith) is) ∙ sym (before_no b c x xs miss))
-    (cases_Bool (x == b))
 
 pub times_at_end : (y c : ℕ) (xs : List ℕ) → times y (at_end c xs) ≡ times y xs + cond (c == y) 1 0
 times_at_end y c [] = omega arith
@@ -98,13 +75,3 @@ times_before y b c (x ∷ xs) once =
     let whole : times y (x ∷ xs) ≡ cond (x == y) 1 0 + times y xs = refl in
     omega arith)
     (cases_Bool (x == b))
-
--- a number that was found is taken out
-pub taken : (xs now seen after : List ℕ) (c i : ℕ) → xs ≡ now → seen ≡ xs → times c now ≡ 1 → i < length seen → get_or seen i 0 ≡ c → after ≡ remove xs i → after ≡ without c now
-taken xs now seen after c i is seen_is once inside here after_is =
-    after_is ∙ remove_is_without c xs i (ap (times c) is ∙ once) (subst (λ l. i < length l) seen_is inside) (ap (λ l. get_or l i 0) (sym seen_is) ∙ here) ∙ ap (without c) is
-
--- a number stands before another that was found
-pub put : (xs now seen after : List ℕ) (b c i : ℕ) → xs ≡ now → seen ≡ xs → times b now ≡ 1 → i < length seen → get_or seen i 0 ≡ b → after ≡ insert xs i c → after ≡ put_before b c now
-put xs now seen after b c i is seen_is once inside here after_is =
-    after_is ∙ insert_is_before b c xs i (ap (times b) is ∙ once) (subst (λ l. i < length l) seen_is inside) (ap (λ l. get_or l i 0) (sym seen_is) ∙ here) ∙ ap (put_before b c) is

@@ -6,7 +6,12 @@ pub mod Points
 pub mod Steps
 pub mod Moved
 pub mod Named
-pub mod Fitting
+pub mod Sides
 pub mod Walks
+pub mod Kept
+pub mod Fitting
+pub mod Written
 pub mod Fronts
 pub mod Neighbours
+pub mod Linking
+pub mod Found

@@ -5,9 +5,10 @@ use Rattle.std.proofs.lemmas.Option.{slice_get_past}
 use Rattle.std.specs.List.{slice_get, list_any}
 use Rattle.dom_tree.specs.Names.{keeps_value_in}
 use Rattle.dom_tree.specs.Nodes.{parent_in, children_in, is_document_in, has_value_in, parent_of, children_of, is_text, is_one, is_child, times, way_up, Ends, ancestors, Fits}
-use Rattle.dom_tree.specs.Changes.{changed, with_parent, with_children, at_end, put_before, left, placed, appended, removed, would_cycle}
-use Rattle.dom_tree.specs.declared.parts.DomNode.{DomNode}
-use Rattle.dom_tree.proofs.Items.{length_changed, beside_changed}
+use Rattle.dom_tree.specs.Changes.{changed, with_parent, with_children, at_end, put_before, left, left_at, placed, appended, removed, would_cycle}
+use Rattle.dom_tree.specs.Node.{DomNode}
+use Rattle.std.specs.Option.{option_map}
+use Rattle.dom_tree.proofs.Items.{length_changed, beside_changed, changed_same, changed_apart, changed_twice}
 use Rattle.dom_tree.proofs.Kids.{times_at_end, times_before, unequal}
 use Rattle.dom_tree.proofs.Ways.{Ends_none, Ends_within, way_step, stays, joins, or_left, or_right}
 use Rattle.dom_tree.proofs.Points.{parent_kept, text_kept, children_beside, text_beside, parent_set, children_set, parent_left, text_left, length_left, gone, stay, documents_placed, documents_removed, values_placed, values_removed}
@@ -73,7 +74,7 @@ module _ (nodes after : List DomNode) (c : ℕ) (t : Option ℕ) (fits : Fits no
   }
 
 module _ (nodes : List DomNode) (fits : Fits nodes) (p c : ℕ) (parent_there : p < length nodes) (child_there : c < length nodes) (valid : would_cycle nodes p c ≡ false) where
-  not_parent : c ≢ p
+  pub not_parent : c ≢ p
   not_parent = eqb-false c p (or_left (c == p) (list_any (λ x. x == c) (ancestors nodes p) || (c == 0 || is_text nodes p)) valid)
 
   valid_1 : (list_any (λ x. x == c) (ancestors nodes p) || (c == 0 || is_text nodes p)) ≡ false
@@ -166,10 +167,10 @@ module _ (nodes : List DomNode) (fits : Fits nodes) (c : ℕ) (child_there : c <
   left_length_too : length (left c nodes) ≡ length nodes
   left_length_too = length_left c (parent_of nodes c) nodes
 
-  removed_here : parent_of (removed c nodes) c ≡ None
+  pub removed_here : parent_of (removed c nodes) c ≡ None
   removed_here = parent_set None c (left c nodes) (subst (λ n. c < n) (sym left_length_too) child_there)
 
-  removed_others : (x : ℕ) → x ≢ c → parent_of (removed c nodes) x ≡ parent_of nodes x
+  pub removed_others : (x : ℕ) → x ≢ c → parent_of (removed c nodes) x ≡ parent_of nodes x
   removed_others x apart = ap parent_in (beside_changed (with_parent None) c (left c nodes) x (λ is. apart (sym is))) ∙ parent_left c (parent_of nodes c) nodes x
 
   removed_top : parent_of (removed c nodes) 0 ≡ None
@@ -190,3 +191,27 @@ module _ (nodes : List DomNode) (fits : Fits nodes) (c : ℕ) (child_there : c <
       (λ x y apart. ap (times y) (children_beside None c (left c nodes) x) ∙ stay nodes fits c x y apart)
       (λ q is. absurd (none_some q is))
       (0, tt)
+
+-- a node without a parent has been taken from it
+left_free : (c : ℕ) (nodes : List DomNode) → parent_of nodes c ≡ None → left c nodes ≡ nodes
+left_free c nodes free = ap (λ o. left_at c o nodes) free
+
+same_free : (o : Option DomNode) → parent_in o ≡ None → option_map (with_parent None) o ≡ o
+same_free None is = refl
+same_free (Some node) is = ap (λ v. Some (record node { parent = v })) (sym is)
+
+pub removed_free : (c : ℕ) (nodes : List DomNode) → parent_of nodes c ≡ None → nodes ≡ removed c nodes
+removed_free c nodes free =
+    sym (ap (changed (with_parent None) c) (left_free c nodes free) ∙ changed_same (with_parent None) c nodes (same_free (slice_get nodes c) free))
+
+-- a node that is placed has been taken from its parent, or not
+pub placed_removed : (place : List ℕ → List ℕ) (p c : ℕ) (nodes : List DomNode) → c ≢ p → parent_of (removed c nodes) c ≡ None → placed place p c (removed c nodes) ≡ placed place p c nodes
+placed_removed place p c nodes apart free =
+    ap (λ l. changed (with_parent (Some p)) c (changed (with_children place) p l)) (left_free c (removed c nodes) free)
+    ∙ ap (changed (with_parent (Some p)) c) (changed_apart (with_children place) (with_parent None) p c (left c nodes) (λ is. apart (sym is)))
+    ∙ changed_twice (with_parent None) (with_parent (Some p)) c (changed (with_children place) p (left c nodes))
+
+pub placed_gone : (nodes : List DomNode) (fits : Fits nodes) (p c : ℕ) (parent_there : p < length nodes) (child_there : c < length nodes) → would_cycle nodes p c ≡ false → (place : List ℕ → List ℕ)
+    → placed place p c (removed c nodes) ≡ placed place p c nodes
+placed_gone nodes fits p c parent_there child_there valid place =
+    placed_removed place p c nodes (not_parent nodes fits p c parent_there child_there valid) (removed_here nodes fits c child_there)

@@ -1,105 +1,90 @@
 -- The nodes beside, above and below a node.
-use Rattle.std.proofs.Common.{◌≡◌, ◌≢◌, ℕ, zero, suc, ◌+◌, ◌-◌, ◌<◌, ◌≤◌, ◌==◌, ◌||◌, Bool, true, false, cond, List, [], ◌∷◌, ◌++◌, length, get_or, fold, Option, Some, None, is_some, IfSome, refl, sym, ap, subst, ◌∙◌, arith, eq-eqb, ⊎_elim}
+use Rattle.std.proofs.Common.{◌≡◌, ◌≢◌, ℕ, zero, suc, ◌+◌, ◌-◌, ◌<◌, ◌≤◌, ◌==◌, ◌||◌, Bool, true, false, cond, List, [], ◌∷◌, ◌++◌, length, get_or, fold, Option, Some, None, is_some, IfSome, refl, sym, ap, subst, ◌∙◌, arith, eq-eqb, ⊎_elim, zero-add}
 use Rattle.std.specs.Prelude.{codes}
-use Rattle.std.proofs.lemmas.Bool.{cases_Bool, cases_lt, cond-true, cond-false, cond_both, eqb-true, false≢true}
+use Rattle.std.proofs.lemmas.Bool.{cases_Bool, cases_eq, cases_lt, cond-true, cond-false, cond_both, eqb-true, false≢true}
 use Rattle.std.proofs.lemmas.Option.{slice_get-get_or, slice_get_past, slice_get_within, get_or_from_slice_get}
 use Rattle.std.specs.List.{slice_get, flat_map, list_any}
 use Rattle.dom_tree.specs.Nodes.{parent_in, parent_of, children_of, is_one, is_child, times, way_up, ancestors, is_in_document, IsInDocument, Fits}
 use Rattle.dom_tree.specs.Order.{tree, in_order, first_that, has_id, has_id_in, child_at, node_by_id, node_by_path, first_child, last_child, next_in, previous_in, children_under, next_sibling, previous_sibling, or_else, next_above, next_within}
-use Rattle.dom_tree.specs.declared.parts.DomNode.{DomNode}
+use Rattle.dom_tree.specs.Node.{DomNode}
 use Rattle.dom_tree.proofs.Ways.{way_step}
-use Rattle.dom_tree.proofs.Kids.{stands, unequal}
-use Rattle.dom_tree.proofs.Points.{parent_read, children_read}
-use Rattle.dom_tree.proofs.Walks.{index_of, index_is, way_none, parent_is, once_is, child_of, inside_from}
+use Rattle.dom_tree.proofs.Kids.{stands, unequal, times_yes}
+use Rattle.dom_tree.proofs.Sides.{next_at, first_stands}
+use Rattle.dom_tree.proofs.Kept.{parent_of_child}
+use Rattle.dom_tree.proofs.Walks.{way_none, parent_is, once_is, child_of, inside_from, depth, depth_step, depth_top, remaining, down, up, over, hit_first, miss_first}
 
--- ---- neighbours in a list
+none_some : {P : Type 0} (x : ℕ) → None ≡ Some x → P
+none_some x is = absurd cc
 
-one_place : (c : ℕ) (xs : List ℕ) (i j : ℕ) → times c xs ≡ 1 → i < length xs → j < length xs → get_or xs i 0 ≡ c → get_or xs j 0 ≡ c → i ≡ j
-one_place c xs i j once i_inside j_inside i_is j_is = sym (index_is c xs i once i_inside i_is) ∙ index_is c xs j once j_inside j_is
-
--- where a number stands once, and not first, it stands once behind the first
-behind_first : (c x : ℕ) (xs : List ℕ) (i : ℕ) → times c (x ∷ xs) ≡ 1 → i < length xs → get_or xs i 0 ≡ c → ((x == c) ≡ false) × (times c xs ≡ 1)
-behind_first c x xs i once inside is =
-    let more = stands c xs i inside is in
-    ⊎_elim
-    (λ hit. let e : times c (x ∷ xs) ≡ 1 + times c xs = ap (λ b. cond b 1 0 + times c xs) hit in absurd (omega arith))
-    (λ miss. let e : times c (x ∷ xs) ≡ 0 + times c xs = ap (λ b. cond b 1 0 + times c xs) miss in (miss, omega arith))
-    (cases_Bool (x == c))
-
-next_at : (c : ℕ) (xs : List ℕ) (i : ℕ) → times c xs ≡ 1 → i < length xs → get_or xs i 0 ≡ c → next_in c xs ≡ slice_get xs (i + 1)
-next_at c [] i once inside is = absurd (omega arith)
-next_at c (x ∷ xs) zero once inside is = cond-true (x == c) (slice_get xs 0) (next_in c xs) (eq-eqb x c is)
-next_at c (x ∷ xs) (suc i) once inside is =
-    let later = behind_first c x xs i once (omega arith) is in
-    let e : suc i + 1 ≡ suc (i + 1) = omega arith in
-    cond-false (x == c) (slice_get xs 0) (next_in c xs) later.0 ∙ next_at c xs i later.1 (omega arith) is ∙ ap (slice_get (x ∷ xs)) (sym e)
-
-not_first : (c : ℕ) (xs : List ℕ) → (0 < length xs → get_or xs 0 0 ≡ c → ⊥) → is_one c (slice_get xs 0) ≡ false
-not_first c [] other = refl
-not_first c (x ∷ xs) other = unequal x c (λ is. other (omega arith) is)
-
-previous_none : (c : ℕ) (xs : List ℕ) → times c xs ≡ 0 → previous_in c xs ≡ None
-previous_none c [] none = refl
-previous_none c (x ∷ xs) none =
-    let less : times c xs ≡ 0 = omega arith in
-    cond-false (is_one c (slice_get xs 0)) (Some x) (previous_in c xs) (not_first c xs (λ inside is. let some = stands c xs 0 inside is in absurd (omega arith)))
-    ∙ previous_none c xs less
-
-previous_first : (c : ℕ) (xs : List ℕ) → times c xs ≡ 1 → get_or xs 0 0 ≡ c → previous_in c xs ≡ None
-previous_first c [] once is = refl
-previous_first c (x ∷ xs) once is =
-    let e : times c (x ∷ xs) ≡ 1 + times c xs = ap (λ b. cond b 1 0 + times c xs) (eq-eqb x c is) in
-    let none : times c xs ≡ 0 = omega arith in
-    cond-false (is_one c (slice_get xs 0)) (Some x) (previous_in c xs) (not_first c xs (λ inside here. let some = stands c xs 0 inside here in absurd (omega arith)))
-    ∙ previous_none c xs none
-
-first_is : (c : ℕ) (xs : List ℕ) → 0 < length xs → get_or xs 0 0 ≡ c → is_one c (slice_get xs 0) ≡ true
-first_is c [] inside is = absurd (omega arith)
-first_is c (x ∷ xs) inside is = eq-eqb x c is
-
-previous_at : (c : ℕ) (xs : List ℕ) (i : ℕ) → times c xs ≡ 1 → suc i < length xs → get_or xs (suc i) 0 ≡ c → previous_in c xs ≡ Some (get_or xs i 0)
-previous_at c [] i once inside is = absurd (omega arith)
-previous_at c (x ∷ xs) zero once inside is = cond-true (is_one c (slice_get xs 0)) (Some x) (previous_in c xs) (first_is c xs (omega arith) is)
-previous_at c (x ∷ xs) (suc i) once inside is =
-    let later = behind_first c x xs (suc i) once (omega arith) is in
-    cond-false (is_one c (slice_get xs 0)) (Some x) (previous_in c xs)
-    (not_first c xs (λ some here. let same = one_place c xs 0 (suc i) later.1 some (omega arith) here is in absurd (omega arith)))
-    ∙ previous_at c xs i later.1 (omega arith) is
+some_same : (x y : ℕ) → Some x ≡ Some y → x ≡ y
+some_same x y is = cc
 
 -- ---- siblings
 
-module _ (nodes : List DomNode) (fits : Fits nodes) (x p : ℕ) (d e : DomNode) (cs : List ℕ) (inside : x < length nodes) (above_is : (get_or nodes x d).parent ≡ Some p) where
-  above : parent_of nodes x ≡ Some p
-  above = parent_read nodes x d inside ∙ above_is
+next_member : (x : ℕ) (xs : List ℕ) (y : ℕ) → next_in x xs ≡ Some y → 1 ≤ times y xs
+next_member x [] y is = none_some y is
+next_member x (z ∷ zs) y is =
+    ⊎_elim
+    (λ hit. let some = first_stands zs y (sym (cond-true (z == x) (slice_get zs 0) (next_in x zs) hit) ∙ is) in let e : times y (z ∷ zs) ≡ cond (z == y) 1 0 + times y zs = refl in omega arith)
+    (λ miss. let some = next_member x zs y (sym (cond-false (z == x) (slice_get zs 0) (next_in x zs) miss) ∙ is) in let e : times y (z ∷ zs) ≡ cond (z == y) 1 0 + times y zs = refl in omega arith)
+    (cases_Bool (z == x))
 
-  pub parent_inside : p < length nodes
-  parent_inside = (fits.parents x p above).0
+previous_member : (x : ℕ) (xs : List ℕ) (y : ℕ) → previous_in x xs ≡ Some y → 1 ≤ times y xs
+previous_member x [] y is = none_some y is
+previous_member x (z ∷ zs) y is =
+    ⊎_elim
+    (λ hit. let same : z ≡ y = some_same z y (sym (cond-true (is_one x (slice_get zs 0)) (Some z) (previous_in x zs) hit) ∙ is) in let e = times_yes y z zs (eq-eqb z y same) in omega arith)
+    (λ miss.
+    let some = previous_member x zs y (sym (cond-false (is_one x (slice_get zs 0)) (Some z) (previous_in x zs) miss) ∙ is) in let e : times y (z ∷ zs) ≡ cond (z == y) 1 0 + times y zs = refl in omega arith)
+    (cases_Bool (is_one x (slice_get zs 0)))
 
-  module _ (cs_is : cs ≡ (get_or nodes p e).children) where
-    cs_of : cs ≡ children_of nodes p
-    cs_of = cs_is ∙ sym (children_read nodes p e parent_inside)
+module _ (nodes : List DomNode) (fits : Fits nodes) where
+  next_under : (x y : ℕ) (o : Option ℕ) → next_in x (children_under nodes o) ≡ Some y → parent_of nodes y ≡ o
+  next_under x y None is = none_some y is
+  next_under x y (Some p) is = parent_of_child nodes fits p y (next_member x (children_of nodes p) y is)
 
-    pub once_among : times x cs ≡ 1
-    once_among = ap (times x) cs_of ∙ once_is nodes fits p x above
+  previous_under : (x y : ℕ) (o : Option ℕ) → previous_in x (children_under nodes o) ≡ Some y → parent_of nodes y ≡ o
+  previous_under x y None is = none_some y is
+  previous_under x y (Some p) is = parent_of_child nodes fits p y (previous_member x (children_of nodes p) y is)
 
-    siblings_are : children_under nodes (parent_of nodes x) ≡ cs
-    siblings_are = ap (children_under nodes) above ∙ sym cs_of
+  next_there_under : (x y : ℕ) (o : Option ℕ) → next_in x (children_under nodes o) ≡ Some y → y < length nodes
+  next_there_under x y None is = none_some y is
+  next_there_under x y (Some p) is = inside_from nodes y p (next_under x y (Some p) is)
 
-    pub sibling_next : (i : ℕ) (r : Option ℕ) → i < length cs → get_or cs i 0 ≡ x → r ≡ slice_get cs (i + 1) → r ≡ next_sibling nodes x
-    sibling_next i r within is r_is = r_is ∙ sym (ap (next_in x) siblings_are ∙ next_at x cs i once_among within is)
+  previous_there_under : (x y : ℕ) (o : Option ℕ) → previous_in x (children_under nodes o) ≡ Some y → y < length nodes
+  previous_there_under x y None is = none_some y is
+  previous_there_under x y (Some p) is = inside_from nodes y p (previous_under x y (Some p) is)
 
-    pub sibling_first : get_or cs 0 0 ≡ x → None ≡ previous_sibling nodes x
-    sibling_first is = sym (ap (previous_in x) siblings_are ∙ previous_first x cs once_among is)
+  -- a sibling that was found is there and has the same parent
+  pub next_beside : (x : ℕ) (r : Option ℕ) → r ≡ next_sibling nodes x → IfSome r (λ y. (y < length nodes) × (parent_of nodes y ≡ parent_of nodes x))
+  next_beside x None is = tt
+  next_beside x (Some y) is = (next_there_under x y (parent_of nodes x) (sym is), next_under x y (parent_of nodes x) (sym is))
 
-    pub sibling_before : (i : ℕ) → 0 < i → i < length cs → get_or cs i 0 ≡ x → Some (get_or cs (i - 1) 0) ≡ previous_sibling nodes x
-    sibling_before i some within is =
-        let e : i ≡ suc (i - 1) = omega arith in
-        sym (ap (previous_in x) siblings_are ∙ previous_at x cs (i - 1) once_among (subst (λ n. n < length cs) e within) (ap (λ n. get_or cs n 0) (sym e) ∙ is))
+  pub previous_beside : (x : ℕ) (r : Option ℕ) → r ≡ previous_sibling nodes x → IfSome r (λ y. (y < length nodes) × (parent_of nodes y ≡ parent_of nodes x))
+  previous_beside x None is = tt
+  previous_beside x (Some y) is = (previous_there_under x y (parent_of nodes x) (sym is), previous_under x y (parent_of nodes x) (sym is))
 
-pub no_sibling : (nodes : List DomNode) (x : ℕ) (d : DomNode) → x < length nodes → (get_or nodes x d).parent ≡ None → (None ≡ next_sibling nodes x) × (None ≡ previous_sibling nodes x)
-no_sibling nodes x d inside none =
-    let above : parent_of nodes x ≡ None = parent_read nodes x d inside ∙ none in
-    (sym (ap (λ o. next_in x (children_under nodes o)) above), sym (ap (λ o. previous_in x (children_under nodes o)) above))
+  first_stands_in : (p c : ℕ) → first_child nodes p ≡ Some c → 1 ≤ times c (children_of nodes p)
+  first_stands_in p c is = first_stands (children_of nodes p) c is
+
+  pub first_there : (p : ℕ) (r : Option ℕ) → r ≡ first_child nodes p → IfSome r (λ c. c < length nodes)
+  first_there p None is = tt
+  first_there p (Some c) is = inside_from nodes c p (parent_of_child nodes fits p c (first_stands_in p c (sym is)))
+
+  -- what a parent's children are from here on
+  pub next_child : (p k c : ℕ) (r : Option ℕ) → slice_get (children_of nodes p) k ≡ Some c → r ≡ next_sibling nodes c → r ≡ slice_get (children_of nodes p) (k + 1)
+  next_child p k c r here is =
+      let within = slice_get_within (children_of nodes p) k c here in
+      let at = get_or_from_slice_get (children_of nodes p) k c 0 here in
+      let above = parent_is nodes fits p c k within at in
+      is ∙ ap (λ o. next_in c (children_under nodes o)) above ∙ next_at c (children_of nodes p) k (once_is nodes fits p c above) within at
+
+pub none_behind : (xs : List ℕ) (k n : ℕ) → slice_get xs k ≡ None → k ≤ n → slice_get xs n ≡ None
+none_behind xs k n none within =
+    ⊎_elim
+    (λ inside. none_some (get_or xs k 0) (sym none ∙ slice_get-get_or xs k 0 inside))
+    (λ past. slice_get_past xs n (omega arith))
+    (cases_lt k (length xs))
 
 -- ---- what follows in tree order
 
@@ -138,6 +123,108 @@ module _ (nodes : List DomNode) (fits : Fits nodes) (root : ℕ) where
       above_only x r apart r_is none
       ∙ ap (λ o. next_above nodes root (way_up (parent_of nodes) (length nodes) o)) above ∙ ap (next_above nodes root) (way_none (parent_of nodes) (length nodes))
 
+-- what next_within gives is there
+module _ (nodes : List DomNode) (fits : Fits nodes) (root : ℕ) where
+  or_there : (o other : Option ℕ) → IfSome o (λ y. y < length nodes) → IfSome other (λ y. y < length nodes) → IfSome (or_else o other) (λ y. y < length nodes)
+  or_there None other one two = two
+  or_there (Some y) other one two = one
+
+  sibling_there : (x : ℕ) (o : Option ℕ) → o ≡ next_sibling nodes x → IfSome o (λ y. y < length nodes)
+  sibling_there x None is = tt
+  sibling_there x (Some y) is = (next_beside nodes fits x (Some y) is).0
+
+  above_there : (xs : List ℕ) → IfSome (next_above nodes root xs) (λ y. y < length nodes)
+  above_there [] = tt
+  above_there (x ∷ xs) =
+      cond_both (x == root) None (or_else (next_sibling nodes x) (next_above nodes root xs)) (λ o. IfSome o (λ y. y < length nodes)) (λ _. tt)
+      (λ _. or_there (next_sibling nodes x) (next_above nodes root xs) (sibling_there x (next_sibling nodes x) refl) (above_there xs))
+
+  pub within_there : (x : ℕ) (r : Option ℕ) → r ≡ next_within nodes root x → IfSome r (λ y. y < length nodes)
+  within_there x r is =
+      subst (λ o. IfSome o (λ y. y < length nodes)) (sym is)
+      (or_there (first_child nodes x) (next_above nodes root (x ∷ ancestors nodes x)) (first_there nodes fits x (first_child nodes x) refl) (above_there (x ∷ ancestors nodes x)))
+
+-- ---- the walk from the document on
+
+-- the document from a node on, which is left where it is the one found next
+abbrev pub walk_from : List DomNode → Option ℕ → List ℕ
+walk_from nodes None = []
+walk_from nodes (Some y) = y ∷ remaining nodes y 0
+
+place_in : (c : ℕ) (xs : List ℕ) → 1 ≤ times c xs → (j : ℕ) × (j < length xs) × (get_or xs j 0 ≡ c)
+place_in c [] some = absurd (omega arith)
+place_in c (x ∷ xs) some =
+    ⊎_elim
+    (λ hit. (0, omega arith, eqb-true x c hit))
+    (λ miss. let more = place_in c xs (subst (λ n. 1 ≤ n) (ap (λ b. cond b 1 0 + times c xs) miss ∙ zero-add (times c xs)) some) in let less : more.0 < length xs = more.1 in (suc more.0, omega arith, more.2))
+    (cases_Bool (x == c))
+
+module _ (nodes : List DomNode) (fits : Fits nodes) where
+  abbrev rest : ℕ → List ℕ
+  rest x = remaining nodes x (length (children_of nodes x))
+
+  rest_end : (j : ℕ) (p : ℕ) → j < length (children_of nodes p) → slice_get (children_of nodes p) (j + 1) ≡ None → remaining nodes p (j + 1) ≡ rest p
+  rest_end j p inside none =
+      ⊎_elim
+      (λ more. none_some (get_or (children_of nodes p) (j + 1) 0) (sym none ∙ slice_get-get_or (children_of nodes p) (j + 1) 0 more))
+      (λ past. let e : j + 1 ≡ length (children_of nodes p) = omega arith in ap (remaining nodes p) e)
+      (cases_lt (j + 1) (length (children_of nodes p)))
+
+  not_top : (x p : ℕ) → parent_of nodes x ≡ Some p → x ≢ 0
+  not_top x p above is = none_some p (sym fits.top ∙ ap (parent_of nodes) (sym is) ∙ above)
+
+  onward : (x p : ℕ) → parent_of nodes x ≡ Some p → (j : ℕ) → j < length (children_of nodes p) → (r : Option ℕ) → slice_get (children_of nodes p) (j + 1) ≡ r
+      → next_sibling nodes x ≡ slice_get (children_of nodes p) (j + 1) → rest p ≡ walk_from nodes (behind_all nodes fits 0 p) → remaining nodes p (j + 1) ≡ walk_from nodes (behind_all nodes fits 0 x)
+  onward x p above j inside None none next again =
+      rest_end j p inside none ∙ again ∙ ap (walk_from nodes) (sym (climbs nodes fits 0 x p None (not_top x p above) (sym (next ∙ none)) refl above))
+  onward x p above j inside (Some s) some next again =
+      down nodes fits p (j + 1) s (slice_get_within (children_of nodes p) (j + 1) s some) (get_or_from_slice_get (children_of nodes p) (j + 1) s 0 some)
+      ∙ ap (walk_from nodes) (sibling_found nodes fits 0 x (Some s) (not_top x p above) (sym (next ∙ some)) refl)
+
+  -- what follows behind all below a node is the rest of the document
+  after_from : (d x : ℕ) (o : Option ℕ) → depth nodes x ≡ d → parent_of nodes x ≡ o → rest x ≡ walk_from nodes (behind_all nodes fits 0 x)
+  after_from d x None deep above =
+      over nodes fits x (length (children_of nodes x)) (omega arith) above
+      ∙ ⊎_elim
+      (λ is. ap (walk_from nodes) (sym (stops nodes fits 0 x is)))
+      (λ apart. ap (walk_from nodes) (sym (top_reached nodes fits 0 x None apart (ap (λ o. next_in x (children_under nodes o)) (sym above)) refl above)))
+      (cases_eq x 0)
+  after_from zero x (Some p) deep above = let deeper = depth_step nodes fits x p above in absurd (omega arith)
+  after_from (suc d) x (Some p) deep above =
+      let once = once_is nodes fits p x above in
+      let place = place_in x (children_of nodes p) (omega arith) in
+      let deeper = depth_step nodes fits x p above in
+      let next : next_sibling nodes x ≡ slice_get (children_of nodes p) (place.0 + 1) = ap (λ o. next_in x (children_under nodes o)) above ∙ next_at x (children_of nodes p) place.0 once place.1 place.2 in
+      up nodes fits x p (length (children_of nodes x)) place.0 (omega arith) above place.1 place.2
+      ∙ onward x p above place.0 place.1 (slice_get (children_of nodes p) (place.0 + 1)) refl next (after_from d p (parent_of nodes p) (omega arith) refl)
+
+  below_first : (x : ℕ) (cs : List ℕ) → children_of nodes x ≡ cs → remaining nodes x 0 ≡ walk_from nodes (or_else (slice_get cs 0) (behind_all nodes fits 0 x))
+  below_first x [] is = ap (λ l. remaining nodes x (length l)) (sym is) ∙ after_from (depth nodes x) x (parent_of nodes x) refl refl
+  below_first x (c ∷ cs) is = down nodes fits x 0 c (subst (λ l. 0 < length l) (sym is) (omega arith)) (ap (λ l. get_or l 0 0) is)
+
+  pub walk_on : (x : ℕ) → remaining nodes x 0 ≡ walk_from nodes (next_within nodes 0 x)
+  walk_on x = below_first x (children_of nodes x) refl
+
+  module _ (test : ℕ → Bool) (x : ℕ) (r : Option ℕ) (is : r ≡ next_within nodes 0 x) where
+    onward_is : remaining nodes x 0 ≡ walk_from nodes r
+    onward_is = walk_on x ∙ ap (walk_from nodes) (sym is)
+
+    pub walk_ended : r ≡ None → first_that test (remaining nodes x 0) ≡ None
+    walk_ended none = ap (first_that test) (onward_is ∙ ap (walk_from nodes) none)
+
+    module _ (y : ℕ) (some : r ≡ Some y) where
+      next_is : remaining nodes x 0 ≡ y ∷ remaining nodes y 0
+      next_is = onward_is ∙ ap (walk_from nodes) some
+
+      pub walk_hit : test y ≡ true → first_that test (remaining nodes x 0) ≡ Some y
+      walk_hit passes = ap (first_that test) next_is ∙ hit_first test y (remaining nodes y 0) passes
+
+      pub walk_missed : test y ≡ false → first_that test (remaining nodes x 0) ≡ first_that test (remaining nodes y 0)
+      walk_missed fails = ap (first_that test) next_is ∙ miss_first test y (remaining nodes y 0) fails
+
+      pub walk_smaller : length (remaining nodes y 0) < length (remaining nodes x 0)
+      walk_smaller = let e : length (remaining nodes x 0) ≡ suc (length (remaining nodes y 0)) = ap length next_is in omega arith
+
 -- ---- in the document
 
 or_true : (b c : Bool) → c ≡ true → (b || c) ≡ true
@@ -170,13 +257,13 @@ module _ (nodes : List DomNode) (fits : Fits nodes) where
   has_there : (id : List ℕ) (x : ℕ) → has_id nodes id x ≡ true → x < length nodes
   has_there id x is = ⊎_elim (λ inside. inside) (λ past. absurd (false≢true (sym (ap (has_id_in id) (slice_get_past nodes x past)) ∙ is))) (cases_lt x (length nodes))
 
-  first_there : (id xs : List ℕ) → AllIn xs → IfSome (first_that (has_id nodes id) xs) (IsInDocument nodes)
-  first_there id [] all = tt
-  first_there id (x ∷ xs) all =
-      cond_both (has_id nodes id x) (Some x) (first_that (has_id nodes id) xs) (λ o. IfSome o (IsInDocument nodes)) (λ is. (has_there id x is, all.0)) (λ other. first_there id xs all.1)
+  found_in : (id xs : List ℕ) → AllIn xs → IfSome (first_that (has_id nodes id) xs) (IsInDocument nodes)
+  found_in id [] all = tt
+  found_in id (x ∷ xs) all =
+      cond_both (has_id nodes id x) (Some x) (first_that (has_id nodes id) xs) (λ o. IfSome o (IsInDocument nodes)) (λ is. (has_there id x is, all.0)) (λ other. found_in id xs all.1)
 
   pub by_id_there : (id : List ℕ) (r : Option ℕ) → r ≡ node_by_id nodes id → IfSome r (IsInDocument nodes)
-  by_id_there id r is = subst (λ o. IfSome o (IsInDocument nodes)) (sym is) (first_there id (in_order nodes) (all_in (length nodes) 0 refl))
+  by_id_there id r is = subst (λ o. IfSome o (IsInDocument nodes)) (sym is) (found_in id (in_order nodes) (all_in (length nodes) 0 refl))
 
   child_there : (p k : ℕ) → is_in_document nodes p ≡ true → (r : Option ℕ) → slice_get (children_of nodes p) k ≡ r → IfSome r (IsInDocument nodes)
   child_there p k is None found = tt

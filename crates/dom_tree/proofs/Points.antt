@@ -1,14 +1,12 @@
 -- What nodes say behind a change.
 use Rattle.std.proofs.Common.{◌≡◌, ◌≢◌, ℕ, zero, suc, ◌<◌, true, false, cond, List, [], ◌∷◌, length, get_or, set, Option, Some, None, refl, sym, ap, subst, ◌∙◌, arith, eq-eqb, ⊎_elim}
-use Rattle.std.specs.Prelude.{OnOk, Result, Ok, Err}
 use Rattle.std.proofs.lemmas.Bool.{cases_eq, eqb-true, false≢true}
-use Rattle.std.proofs.lemmas.Option.{slice_get-get_or}
 use Rattle.std.specs.List.{slice_get}
 use Rattle.std.specs.Option.{option_map, MatchOption}
 use Rattle.dom_tree.specs.Names.{keeps_value_in}
 use Rattle.dom_tree.specs.Nodes.{parent_in, children_in, is_text_in, is_document_in, has_value_in, parent_of, children_of, is_text, is_one, is_child, times, Fits}
 use Rattle.dom_tree.specs.Changes.{changed, with_parent, with_children, without, left, left_at, placed, removed}
-use Rattle.dom_tree.specs.declared.parts.DomNode.{DomNode}
+use Rattle.dom_tree.specs.Node.{DomNode}
 use Rattle.dom_tree.proofs.Items.{length_changed, set_is_changed, at_changed, beside_changed, changed_twice, changed_apart, changed_same}
 use Rattle.dom_tree.proofs.Kids.{times_without_same, times_without_other, unequal}
 
@@ -75,12 +73,6 @@ children_set f i nodes inside =
     let here = found nodes i inside in
     ap children_in (at_changed (with_children f) i nodes) ∙ ap (λ o. children_in (option_map (with_children f) o)) here.1 ∙ ap (λ o. f (children_in o)) (sym here.1)
 
-pub parent_read : (nodes : List DomNode) (i : ℕ) (d : DomNode) → i < length nodes → parent_of nodes i ≡ (get_or nodes i d).parent
-parent_read nodes i d inside = ap parent_in (slice_get-get_or nodes i d inside)
-
-pub children_read : (nodes : List DomNode) (i : ℕ) (d : DomNode) → i < length nodes → children_of nodes i ≡ (get_or nodes i d).children
-children_read nodes i d inside = ap children_in (slice_get-get_or nodes i d inside)
-
 -- a child has left its parent
 pub parent_left : (c : ℕ) (o : Option ℕ) (nodes : List DomNode) (x : ℕ) → parent_of (left_at c o nodes) x ≡ parent_of nodes x
 parent_left c None nodes x = refl
@@ -122,69 +114,6 @@ module _ (nodes : List DomNode) (fits : Fits nodes) (c : ℕ) where
 
   pub stay : (x y : ℕ) → y ≢ c → times y (children_of (left c nodes) x) ≡ times y (children_of nodes x)
   stay x y other = others_stay (parent_of nodes c) refl x y other
-
-  -- the parent that the child has, if it has one, is there and has the child
-  there_from : (o : Option ℕ) → parent_of nodes c ≡ o → MatchOption o (Unit {0}) (λ p. (p < length nodes) × (times c (children_of nodes p) ≡ 1))
-  there_from None is = tt
-  there_from (Some p) is = ((fits.parents c p is).0, fits.children p c ∙ ap (λ o. cond (is_one p o) 1 0) is ∙ ap (λ b. cond b 1 0) (eq-eqb p p refl))
-
-  pub there : MatchOption (parent_of nodes c) (Unit {0}) (λ p. (p < length nodes) × (times c (children_of nodes p) ≡ 1))
-  there = there_from (parent_of nodes c) refl
-
-  pub once : (p : ℕ) → is_child nodes p c ≡ true → times c (children_of nodes p) ≡ 1
-  once p is = fits.children p c ∙ ap (λ b. cond b 1 0) is
-
-  -- the same, behind a change of another node's children
-  module _ (f : List ℕ → List ℕ) (p : ℕ) (apart : is_child nodes p c ≡ false) where
-    not_this : (q : ℕ) → parent_of nodes c ≡ Some q → p ≢ q
-    not_this q is same = false≢true (sym apart ∙ ap (is_one p) is ∙ eq-eqb q p (sym same))
-
-    there_behind_from : (o : Option ℕ) → parent_of nodes c ≡ o → MatchOption o (Unit {0}) (λ q. (q < length (changed (with_children f) p nodes)) × (times c (children_of (changed (with_children f) p nodes) q) ≡ 1))
-    there_behind_from None is = tt
-    there_behind_from (Some q) is = (
-      subst (λ n. q < n) (sym (length_changed (with_children f) p nodes)) (fits.parents c q is).0,
-      ap (λ o. times c (children_in o)) (beside_changed (with_children f) p nodes q (not_this q is)) ∙ (there_from (Some q) is).1,
-    )
-
-    pub there_behind : MatchOption (parent_of (changed (with_children f) p nodes) c) (Unit {0}) (λ q. (q < length (changed (with_children f) p nodes)) × (times c (children_of (changed (with_children f) p nodes) q) ≡ 1))
-    there_behind =
-        subst (λ o. MatchOption o (Unit {0}) (λ q. (q < length (changed (with_children f) p nodes)) × (times c (children_of (changed (with_children f) p nodes) q) ≡ 1)))
-        (sym (parent_kept f p nodes c)) (there_behind_from (parent_of nodes c) refl)
-
-    left_behind_from : (o : Option ℕ) → parent_of nodes c ≡ o → left_at c o (changed (with_children f) p nodes) ≡ changed (with_children f) p (left_at c o nodes)
-    left_behind_from None is = refl
-    left_behind_from (Some q) is = changed_apart (with_children (without c)) (with_children f) q p nodes (λ same. not_this q is (sym same))
-
-    -- a child leaves its parent before or behind the change
-    pub left_behind : left c (changed (with_children f) p nodes) ≡ changed (with_children f) p (left c nodes)
-    left_behind = ap (λ o. left_at c o (changed (with_children f) p nodes)) (parent_kept f p nodes c) ∙ left_behind_from (parent_of nodes c) refl
-
-one_is : (p : ℕ) (o : Option ℕ) → is_one p o ≡ true → o ≡ Some p
-one_is p None is = absurd (false≢true is)
-one_is p (Some q) is = ap Some (eqb-true q p is)
-
-same_parent : (p : ℕ) (o : Option DomNode) → parent_in o ≡ Some p → option_map (with_parent (Some p)) o ≡ o
-same_parent p None is = refl
-same_parent p (Some node) is = ap (λ v. Some (record node { parent = v })) (sym is)
-
--- a child that stays in its parent has only another place
-pub placed_within : (place : List ℕ → List ℕ) (p c : ℕ) (nodes : List DomNode) → is_child nodes p c ≡ true → changed (with_children (λ cs. place (without c cs))) p nodes ≡ placed place p c nodes
-placed_within place p c nodes is =
-    let parent_is : parent_of nodes c ≡ Some p = one_is p (parent_of nodes c) is in
-    let inner : changed (with_children (λ cs. place (without c cs))) p nodes ≡ changed (with_children place) p (left c nodes) =
-    sym (changed_twice (with_children (without c)) (with_children place) p nodes) ∙ ap (λ o. changed (with_children place) p (left_at c o nodes)) (sym parent_is) in
-    let parent_there : parent_of (changed (with_children place) p (left c nodes)) c ≡ Some p = parent_kept place p (left c nodes) c ∙ parent_left c (parent_of nodes c) nodes c ∙ parent_is in
-    inner ∙ sym (changed_same (with_parent (Some p)) c (changed (with_children place) p (left c nodes)) (same_parent p (slice_get (changed (with_children place) p (left c nodes)) c) parent_there))
-
--- a node with new children is written
-pub put_changed : (f : List ℕ → List ℕ) (nodes : List DomNode) (i : ℕ) (d : DomNode) (new : List ℕ) → i < length nodes → new ≡ f (get_or nodes i d).children
-    → set nodes i (record (get_or nodes i d) { children = new }) ≡ changed (with_children f) i nodes
-put_changed f nodes i d new inside is = ap (λ l. set nodes i (record (get_or nodes i d) { children = l })) is ∙ set_is_changed (with_children f) i nodes d inside
-
-pub put_ok : {T E : Type 0} (r : Result T E) (f : List ℕ → List ℕ) (nodes : List DomNode) (i : ℕ) (d : DomNode) (new : List ℕ) → i < length nodes → OnOk r (new ≡ f (get_or nodes i d).children)
-    → OnOk r (set nodes i (record (get_or nodes i d) { children = new }) ≡ changed (with_children f) i nodes)
-put_ok (Ok v) f nodes i d new inside is = put_changed f nodes i d new inside is
-put_ok (Err e) f nodes i d new inside is = tt
 
 -- a reader of nodes that no change of parents and children touches
 module _ {Y : Type 0} (r : Option DomNode → Y) (kids : (f : List ℕ → List ℕ) (o : Option DomNode) → r (option_map (with_children f) o) ≡ r o)

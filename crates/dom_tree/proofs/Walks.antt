@@ -2,14 +2,13 @@
 use Rattle.std.proofs.Common.{◌≡◌, ℕ, zero, suc, ◌+◌, ◌-◌, ◌*◌, ◌<◌, ◌≤◌, ◌==◌, Bool, true, false, cond, List, [], ◌∷◌, ◌++◌, length, get_or, drop, drop-cons, add-one, Option, Some, None, refl, sym, ap, subst, ◌∙◌, arith, eq-eqb, ⊎_elim, append_assoc, append-nil, ◌&&◌, fold}
 use Rattle.std.specs.Prelude.{codes}
 use Rattle.dom_tree.specs.Names.{value_named}
-use Rattle.dom_tree.proofs.Points.{parent_read, children_read}
 use Rattle.std.proofs.lemmas.Bool.{cases_Bool, cases_lt, cond-true, cond-false, eqb-true, false≢true}
 use Rattle.std.proofs.lemmas.List.{drop_all, nil_from_length}
 use Rattle.std.proofs.lemmas.Option.{slice_get-get_or, slice_get_past, slice_get_within, get_or_from_slice_get}
 use Rattle.std.specs.List.{slice_get, flat_map}
 use Rattle.dom_tree.specs.Nodes.{parent_in, is_document_in, is_document_kind, parent_of, children_of, is_one, times, way_up, ancestors, Fits}
 use Rattle.dom_tree.specs.Order.{tree, in_order, first_that, has_id, has_id_in, is_element_kind, is_value, child_at, node_by_id}
-use Rattle.dom_tree.specs.declared.parts.DomNode.{DomNode}
+use Rattle.dom_tree.specs.Node.{DomNode}
 use Rattle.dom_tree.specs.declared.parts.Kind.{Kind}
 use Rattle.dom_tree.specs.declared.parts.Kind.TheVariants.{Document, Element, Text}
 use Rattle.dom_tree.proofs.Ways.{way_step}
@@ -43,7 +42,7 @@ way_none above (suc k) = refl
 none_left : {P : Type 0} → 1 ≤ 0 → P
 none_left h = absurd (omega arith)
 
-one_from : (o : Option ℕ) (p : ℕ) → 1 ≤ cond (is_one p o) 1 0 → o ≡ Some p
+pub one_from : (o : Option ℕ) (p : ℕ) → 1 ≤ cond (is_one p o) 1 0 → o ≡ Some p
 one_from None p some = absurd (omega arith)
 one_from (Some q) p some =
     ⊎_elim
@@ -82,11 +81,11 @@ module _ (nodes : List DomNode) (fits : Fits nodes) where
   unfolding depth
   depth_step c p is = ap (λ o. length (way_up (parent_of nodes) (length nodes) o)) is ∙ ap length (way_step (parent_of nodes) (length nodes) p (fits.ends p))
 
-  depth_top : (p : ℕ) → parent_of nodes p ≡ None → depth nodes p ≡ 0
+  pub depth_top : (p : ℕ) → parent_of nodes p ≡ None → depth nodes p ≡ 0
   unfolding depth
   depth_top p is = ap (λ o. length (way_up (parent_of nodes) (length nodes) o)) is ∙ ap length (way_none (parent_of nodes) (length nodes))
 
-  depth_below : (x : ℕ) → depth nodes x < length nodes
+  pub depth_below : (x : ℕ) → depth nodes x < length nodes
   unfolding depth
   depth_below x =
       let whole : length (way_up (parent_of nodes) (length nodes) (Some x)) ≡ suc (length (ancestors nodes x)) = ap length (way_step (parent_of nodes) (length nodes) x (fits.ends x)) in
@@ -198,91 +197,6 @@ module _ (nodes : List DomNode) (fits : Fits nodes) where
 
   pub some_nodes : 0 < length nodes
   some_nodes = let room = depth_below nodes fits 0 in omega arith
-
-  -- code that is at a node, with its children in hand
-  module _ (p i : ℕ) (d : DomNode) (cs : List ℕ) (there : p < length nodes) (cs_is : cs ≡ (get_or nodes p d).children) where
-    cs_of : cs ≡ children_of nodes p
-    cs_of = cs_is ∙ sym (children_read nodes p d there)
-
-    module _ (inside : i < length cs) where
-      within : i < length (children_of nodes p)
-      within = subst (λ l. i < length l) cs_of inside
-
-      at_child : get_or (children_of nodes p) i 0 ≡ get_or cs i 0
-      at_child = ap (λ l. get_or l i 0) (sym cs_of)
-
-      pub child_there : get_or cs i 0 < length nodes
-      child_there = inside_from nodes (get_or cs i 0) p (parent_is nodes fits p (get_or cs i 0) i within at_child)
-
-      next : remaining nodes p i ≡ get_or cs i 0 ∷ remaining nodes (get_or cs i 0) 0
-      next = down nodes fits p i (get_or cs i 0) within at_child
-
-      deeper : depth nodes (get_or cs i 0) ≡ suc (depth nodes p)
-      deeper = depth_step nodes fits (get_or cs i 0) p (parent_is nodes fits p (get_or cs i 0) i within at_child)
-
-      pub has_is : (id : List ℕ) (e : DomNode) (r : Bool) → r ≡ has_id_in id (Some (get_or nodes (get_or cs i 0) e)) → has_id nodes id (get_or cs i 0) ≡ r
-      has_is id e r is = ap (has_id_in id) (slice_get-get_or nodes (get_or cs i 0) e child_there) ∙ sym is
-
-      pub hit : (id : List ℕ) → has_id nodes id (get_or cs i 0) ≡ true → first_that (has_id nodes id) (remaining nodes p i) ≡ Some (get_or cs i 0)
-      hit id is = ap (first_that (has_id nodes id)) next ∙ hit_first (has_id nodes id) (get_or cs i 0) (remaining nodes (get_or cs i 0) 0) is
-
-      pub went_down : (id : List ℕ) → has_id nodes id (get_or cs i 0) ≡ false → first_that (has_id nodes id) (remaining nodes p i) ≡ first_that (has_id nodes id) (remaining nodes (get_or cs i 0) 0)
-      went_down id is = ap (first_that (has_id nodes id)) next ∙ miss_first (has_id nodes id) (get_or cs i 0) (remaining nodes (get_or cs i 0) 0) is
-
-      pub down_smaller : 2 * length (remaining nodes (get_or cs i 0) 0) + depth nodes (get_or cs i 0) < 2 * length (remaining nodes p i) + depth nodes p
-      down_smaller =
-          let long : length (remaining nodes p i) ≡ suc (length (remaining nodes (get_or cs i 0) 0)) = ap length next in
-          let deep = deeper in
-          omega arith
-
-      module _ (e : DomNode) (ks : List ℕ) (ks_is : ks ≡ (get_or nodes (get_or cs i 0) e).children) (empty : (length ks == 0) ≡ true) where
-        childless : children_of nodes (get_or cs i 0) ≡ []
-        childless = children_read nodes (get_or cs i 0) e child_there ∙ sym ks_is ∙ nil_from_length ks (eqb-true (length ks) 0 empty)
-
-        next_beside : remaining nodes p i ≡ get_or cs i 0 ∷ remaining nodes p (i + 1)
-        next_beside = beside nodes fits p i (get_or cs i 0) within at_child childless
-
-        pub went_beside : (id : List ℕ) → has_id nodes id (get_or cs i 0) ≡ false → first_that (has_id nodes id) (remaining nodes p i) ≡ first_that (has_id nodes id) (remaining nodes p (i + 1))
-        went_beside id is = ap (first_that (has_id nodes id)) next_beside ∙ miss_first (has_id nodes id) (get_or cs i 0) (remaining nodes p (i + 1)) is
-
-        pub beside_smaller : 2 * length (remaining nodes p (i + 1)) + depth nodes p < 2 * length (remaining nodes p i) + depth nodes p
-        beside_smaller =
-            let long : length (remaining nodes p i) ≡ suc (length (remaining nodes p (i + 1))) = ap length next_beside in
-            omega arith
-
-    module _ (past : length cs ≤ i) where
-      beyond : length (children_of nodes p) ≤ i
-      beyond = subst (λ l. length l ≤ i) cs_of past
-
-      pub ended : (id : List ℕ) → (get_or nodes p d).parent ≡ None → first_that (has_id nodes id) (remaining nodes p i) ≡ None
-      ended id none = ap (first_that (has_id nodes id)) (over nodes fits p i beyond (parent_read nodes p d there ∙ none))
-
-      module _ (q : ℕ) (above_is : (get_or nodes p d).parent ≡ Some q) where
-        above : parent_of nodes p ≡ Some q
-        above = parent_read nodes p d there ∙ above_is
-
-        pub parent_there : q < length nodes
-        parent_there = (fits.parents p q above).0
-
-        module _ (e : DomNode) (ks : List ℕ) (ks_is : ks ≡ (get_or nodes q e).children) where
-          ks_of : ks ≡ children_of nodes q
-          ks_of = ks_is ∙ sym (children_read nodes q e parent_there)
-
-          pub once_there : times p ks ≡ 1
-          once_there = ap (times p) ks_of ∙ once_is nodes fits q p above
-
-          module _ (j : ℕ) (j_inside : j < length ks) (j_is : get_or ks j 0 ≡ p) where
-            climbed : remaining nodes p i ≡ remaining nodes q (j + 1)
-            climbed = up nodes fits p q i j beyond above (subst (λ l. j < length l) ks_of j_inside) (ap (λ l. get_or l j 0) (sym ks_of) ∙ j_is)
-
-            pub went_up : (id : List ℕ) → first_that (has_id nodes id) (remaining nodes p i) ≡ first_that (has_id nodes id) (remaining nodes q (j + 1))
-            went_up id = ap (first_that (has_id nodes id)) climbed
-
-            pub up_smaller : 2 * length (remaining nodes q (j + 1)) + depth nodes q < 2 * length (remaining nodes p i) + depth nodes p
-            up_smaller =
-                let long : length (remaining nodes p i) ≡ length (remaining nodes q (j + 1)) = ap length climbed in
-                let deep = depth_step nodes fits p q above in
-                omega arith
 
 -- a path is followed
 path_none : (nodes : List DomNode) (path : List ℕ) → fold (child_at nodes) None path ≡ None

@@ -3,7 +3,7 @@ use Rattle.std.specs.Prelude.{ℕ, Bool, false, ◌||◌, not, List, [], ◌∷�
 use Rattle.std.specs.List.{filter}
 use Rattle.std.specs.Str.{bytes_eq}
 use Rattle.html_profile.specs.declared.document.DocAttribute.{DocAttribute}
-use Rattle.dom_tree.specs.declared.parts.DomNode.{DomNode}
+use Rattle.dom_tree.specs.Node.{DomNode}
 use Rattle.dom_tree.specs.declared.parts.Kind.{Kind}
 use Rattle.dom_tree.specs.declared.parts.Kind.TheVariants.{Document, Element, Text}
 use Rattle.dom_tree.specs.declared.parts.NewNode.{NewNode}

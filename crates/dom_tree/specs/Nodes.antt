@@ -3,7 +3,7 @@
 use Rattle.std.specs.Prelude.{◌≡◌, ℕ, zero, suc, ◌+◌, ◌<◌, ◌==◌, Bool, false, true, cond, List, [], ◌∷◌, length, Option, Some, None, is_some, slice_get, ◌||◌}
 use Rattle.std.specs.List.{list_any}
 use Rattle.dom_tree.specs.Names.{keeps_value_in}
-use Rattle.dom_tree.specs.declared.parts.DomNode.{DomNode}
+use Rattle.dom_tree.specs.Node.{DomNode}
 use Rattle.dom_tree.specs.declared.parts.Kind.{Kind}
 use Rattle.dom_tree.specs.declared.parts.Kind.TheVariants.{Document, Element, Text}
 

@@ -8,7 +8,7 @@ use Rattle.html_profile.specs.declared.document.Content.{Content}
 use Rattle.html_profile.specs.declared.document.Content.TheVariants.{Document as page, Element as tag, Text as words}
 use Rattle.dom_tree.specs.Nodes.{is_one}
 use Rattle.dom_tree.specs.Names.{value_named}
-use Rattle.dom_tree.specs.declared.parts.DomNode.{DomNode}
+use Rattle.dom_tree.specs.Node.{DomNode}
 use Rattle.dom_tree.specs.declared.parts.Kind.{Kind}
 use Rattle.dom_tree.specs.declared.parts.Kind.TheVariants.{Document, Element, Text}
 

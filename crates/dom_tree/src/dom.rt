@@ -1,6 +1,7 @@
 // A document.
-ghost use Rattle.std.specs.Prelude.{◌≡◌, ℕ, ◌⊎◌, ◌<◌, ◌≤◌, ◌-◌, ◌^◌, ◌==◌, ◌↔◌, Bool, true, false, List, [], ◌∷◌, ◌++◌, length, IfOk, IfErr, IfSome, OnOk, OnErr, MatchOption, Some, None, slice_get};
+ghost use Rattle.std.specs.Prelude.{◌≡◌, ◌⊎◌, ◌<◌, ◌≤◌, ◌↔◌, true, false, List, [], ◌∷◌, ◌++◌, length, IfOk, IfErr, IfSome, OnOk, OnErr, Some, slice_get};
 ghost use Rattle.std.specs.Option.{option_map};
+ghost use Rattle.dom_tree.specs.Node.{node_with};
 ghost use Rattle.dom_tree.specs.Nodes.{Fits, parent_of, children_of, is_child, is_text, is_in_document, IsInDocument};
 ghost use Rattle.dom_tree.specs.Changes.{changed, appended, inserted, removed, would_cycle};
 ghost use Rattle.dom_tree.specs.Names.{value_named, attributes_of, with_value, without_name, with_attributes, with_text, with_own_value, keeps_value_in, fresh, kind_of_new};
@@ -12,17 +13,17 @@ use crate::kin::{
 };
 use crate::moves::{append_child, insert_child, is_child, remove_child, would_cycle};
 use crate::order::{node_by_id, node_by_path};
-use crate::parts::{DomNode, Kind, NewNode};
+use crate::parts::{Kind, NewNode, NodeData};
 use crate::reading::read_nodes;
 use crate::writes::{push_node, remove_attribute, set_attribute, set_text, set_value};
 use html_profile::Document;
-use mug_text::{JText, NoMemory};
+use mug_text::{INDEX_END, JText, NoMemory};
 use std::alloc::{AllocError, Global};
 use std::marker::Model;
 use thiserror::Error;
 
-// The most nodes: there are fewer than 2^32 - 1.
-const LIMIT: usize = 4_294_967_294;
+/// The nodes of a document that is changed: at most so many, so that there are fewer than `INDEX_END`.
+pub const NODE_LIMIT: u32 = INDEX_END - 1;
 
 /// Why a document is not changed.
 #[derive(Clone, Copy, Debug, PartialEq, Eq, Error)]
@@ -66,20 +67,19 @@ impl From<NoMemory> for DomFault {
 #[derive(Debug, Drop)]
 pub struct Dom {
     alloc: Global,
-    nodes: Vec<DomNode>,
+    nodes: Vec<NodeData>,
 }
 
 impl Model for Dom {
     ghost use Rattle.std.specs.Prelude.{◌<◌, ◌^◌, List, length};
-    ghost use Rattle.dom_tree.specs.declared.parts.DomNode.{DomNode};
+    ghost use Rattle.dom_tree.specs.Node.{DomNode};
+    ghost use Rattle.dom_tree.specs.inner.Kept.{nodes_of, IsLinked};
 
     ghost Value = { List DomNode };
 
-    ghost use Rattle.dom_tree.specs.Nodes.{Fits};
+    ghost view = { λ d. nodes_of d.nodes.items };
 
-    ghost view = { λ d. d.nodes.items };
-
-    ghost invariant = { λ d. Fits d.nodes.items × (length d.nodes.items < 2 ^ 32) };
+    ghost invariant = { λ d. IsLinked d.nodes.items × (length d.nodes.items < 2 ^ 32) };
 }
 
 impl Dom {
@@ -100,10 +100,10 @@ impl Dom {
         self.nodes.len() as u32
     }
 
-    /// The node of this number.
-    pub fn node(&self, id: u32) -> &DomNode
+    /// What is kept of the node of this number. What stands around it is asked for by calls of their own.
+    pub fn node(&self, id: u32) -> &NodeData
         requires { id < length self.now }
-        ensures { slice_get self.now id ≡ Some result.now }
+        ensures { slice_get self.now id ≡ Some (node_with (children_of self.now id) result.now) }
     {
         &self.nodes[id as usize]
     }
@@ -111,19 +111,19 @@ impl Dom {
     /// Makes a node outside the document; a value that it keeps is empty.
     pub fn create(&mut self, kind: NewNode) -> Result<u32, DomFault>
         ensures ok { IfOk result (λ id. (id ≡ length self.old) × (self.new ≡ self.old ++ fresh (kind_of_new kind) ∷ [])) }
-        ensures full { (result ≡ Err DomFault.Full) ↔ (2 ^ 32 - 2 ≤ length self.old) }
+        ensures full { (result ≡ Err DomFault.Full) ↔ (NODE_LIMIT ≤ length self.old) }
         ensures others { IfErr result (λ fault. (fault ≡ DomFault.Full) ⊎ (fault ≡ DomFault.NoMemory)) }
         ensures err { OnErr result (self.new ≡ self.old) }
     {
         let id = self.nodes.len();
-        if id >= LIMIT {
+        if id >= NODE_LIMIT as usize {
             return Err(DomFault::Full);
         }
         let kind = match kind {
             NewNode::Element(name) => Kind::Element(name),
             NewNode::Text(text) => Kind::Text(text),
         };
-        let node = DomNode::fresh(self.alloc, kind)?;
+        let node = NodeData::fresh(self.alloc, kind)?;
         push_node(&mut self.nodes, node)?;
         Ok(id as u32)
     }
@@ -134,13 +134,13 @@ impl Dom {
         requires child { child < length self.old }
         ensures ok { OnOk result (self.new ≡ appended parent child self.old) }
         ensures cycle { (result ≡ Err DomFault.WouldCycle) ↔ (would_cycle self.old parent child ≡ true) }
-        ensures others { IfErr result (λ fault. (fault ≡ DomFault.WouldCycle) ⊎ (fault ≡ DomFault.NoMemory)) }
+        ensures others { IfErr result (λ fault. fault ≡ DomFault.WouldCycle) }
         ensures err { OnErr result (self.new ≡ self.old) }
     {
         if would_cycle(&self.nodes, parent, child) {
             return Err(DomFault::WouldCycle);
         }
-        append_child(&mut self.nodes, parent, child)?;
+        append_child(&mut self.nodes, parent, child);
         Ok(())
     }
 
@@ -151,7 +151,7 @@ impl Dom {
         ensures ok { OnOk result (self.new ≡ inserted parent child before self.old) }
         ensures cycle { (result ≡ Err DomFault.WouldCycle) ↔ (would_cycle self.old parent child ≡ true) }
         ensures not_found { (result ≡ Err DomFault.NotFound) ↔ ((would_cycle self.old parent child ≡ false) × (is_child self.old parent before ≡ false)) }
-        ensures never { result ≡ Err DomFault.Full → ⊥ }
+        ensures others { IfErr result (λ fault. (fault ≡ DomFault.WouldCycle) ⊎ (fault ≡ DomFault.NotFound)) }
         ensures err { OnErr result (self.new ≡ self.old) }
     {
         let found = is_child(&self.nodes, parent, before);
@@ -164,7 +164,7 @@ impl Dom {
         if child == before {
             return Ok(());
         }
-        insert_child(&mut self.nodes, parent, child, before)?;
+        insert_child(&mut self.nodes, parent, child, before);
         Ok(())
     }
 
@@ -267,14 +267,18 @@ impl Dom {
 
     pub fn next_sibling(&self, node: u32) -> Option<u32>
         requires { node < length self.now }
-        ensures { result ≡ next_sibling self.now node }
+        ensures is { result ≡ next_sibling self.now node }
+        ensures there { IfSome result (λ x. x < length self.now) }
+        ensures beside { IfSome result (λ x. parent_of self.now x ≡ parent_of self.now node) }
     {
         next_sibling(&self.nodes, node)
     }
 
     pub fn previous_sibling(&self, node: u32) -> Option<u32>
         requires { node < length self.now }
-        ensures { result ≡ previous_sibling self.now node }
+        ensures is { result ≡ previous_sibling self.now node }
+        ensures there { IfSome result (λ x. x < length self.now) }
+        ensures beside { IfSome result (λ x. parent_of self.now x ≡ parent_of self.now node) }
     {
         previous_sibling(&self.nodes, node)
     }
@@ -283,7 +287,8 @@ impl Dom {
     /// on, it gives all that is below it.
     pub fn next_within(&self, root: u32, node: u32) -> Option<u32>
         requires { node < length self.now }
-        ensures { result ≡ next_within self.now root node }
+        ensures is { result ≡ next_within self.now root node }
+        ensures there { IfSome result (λ x. x < length self.now) }
     {
         next_within(&self.nodes, root, node)
     }

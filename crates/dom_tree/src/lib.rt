@@ -2,7 +2,6 @@
 #![tactic(auto)]
 
 mod attributes;
-mod children;
 mod dom;
 mod kin;
 mod moves;
@@ -13,6 +12,5 @@ mod words;
 mod writes;
 
 pub use attributes::Attributes;
-pub use children::Children;
-pub use dom::{Dom, DomFault};
-pub use parts::{DomNode, Kind, NewNode};
+pub use dom::{Dom, DomFault, NODE_LIMIT};
+pub use parts::{Kind, NewNode, NodeData};

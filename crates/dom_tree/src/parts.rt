@@ -1,9 +1,9 @@
 // What a document is made of.
-ghost use Rattle.std.specs.Prelude.{◌≡◌, IfOk};
+ghost use Rattle.std.specs.Prelude.{◌≡◌, [], None, is_some, IfOk};
 ghost use Rattle.dom_tree.specs.Names.{keeps_value, fresh};
+ghost use Rattle.dom_tree.specs.inner.Kept.{bare, no_links};
 
 use crate::attributes::Attributes;
-use crate::children::Children;
 use crate::words::{is_word, no_text};
 use mug_text::{JText, NoMemory};
 use std::alloc::Global;
@@ -25,16 +25,25 @@ pub enum NewNode {
     Text(JText),
 }
 
-/// A node of a document.
+/// The nodes around a node, but for its parent.
+#[derive(Clone, Copy, Debug)]
+pub(crate) struct Links {
+    pub(crate) first: Option<u32>,
+    pub(crate) last: Option<u32>,
+    pub(crate) previous: Option<u32>,
+    pub(crate) next: Option<u32>,
+}
+
+/// What is kept of a node. Its children are read by the document's calls.
 #[derive(Debug, Drop)]
-pub struct DomNode {
+pub struct NodeData {
     pub kind: Kind,
     /// The document has none, and the root of a tree outside the document.
     pub parent: Option<u32>,
-    pub children: Children,
     pub attributes: Attributes,
     /// What an input or a textarea holds; other nodes have none.
     pub value: Option<JText>,
+    pub(crate) links: Links,
 }
 
 impl Kind {
@@ -49,22 +58,37 @@ impl Kind {
     }
 }
 
-impl DomNode {
+impl Links {
+    /// The links of a node in no parent and without children.
+    pub(crate) fn new() -> Links
+        ensures { result ≡ no_links }
+    {
+        Links {
+            first: None,
+            last: None,
+            previous: None,
+            next: None,
+        }
+    }
+}
+
+impl NodeData {
     /// A node outside the document.
-    pub(crate) fn fresh(alloc: Global, kind: Kind) -> Result<DomNode, NoMemory>
-        ensures { IfOk result (λ node. node ≡ fresh kind) }
+    pub(crate) fn fresh(alloc: Global, kind: Kind) -> Result<NodeData, NoMemory>
+        ensures is { IfOk result (λ d. bare d ≡ fresh kind) }
+        ensures links { IfOk result (λ d. d.links ≡ no_links) }
     {
         let value = if kind.keeps_value() {
             Some(no_text(alloc)?)
         } else {
             None
         };
-        Ok(DomNode {
+        Ok(NodeData {
             kind,
             parent: None,
-            children: Children::new(alloc),
             attributes: Attributes::new(alloc),
             value,
+            links: Links::new(),
         })
     }
 }

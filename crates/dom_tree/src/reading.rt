@@ -1,14 +1,13 @@
 // The nodes of a page as nodes of a document.
-ghost use Rattle.std.specs.Prelude.{◌≡◌, ◌+◌, ◌<◌, ◌^◌, [], ◌∷◌, length, take, vec_len, slice_get, IfOk, OnOk, Some};
+ghost use Rattle.std.specs.Prelude.{◌≡◌, ◌+◌, ◌<◌, ◌^◌, [], ◌∷◌, length, take, vec_len, slice_get, IfOk, OnOk, Some, None};
 ghost use Rattle.std.specs.Option.{option_map};
 ghost use Rattle.html_profile.specs.Numbering.{IsNumbered};
-ghost use Rattle.dom_tree.specs.Nodes.{Fits};
 ghost use Rattle.dom_tree.specs.Reading.{kind_of, attributes_of_content, text_in, or_empty, value_of, made_of, IsFront, IsRead};
+ghost use Rattle.dom_tree.specs.inner.Kept.{nodes_of, bare, no_links, IsLinked};
 
 use crate::attributes::{Attributes, value_of};
-use crate::children::Children;
 use crate::moves::append_child;
-use crate::parts::{DomNode, Kind};
+use crate::parts::{Kind, Links, NodeData};
 use crate::words::{is_word, no_text};
 use crate::writes::push_node;
 use html_profile::{Content, Document};
@@ -84,17 +83,18 @@ fn start_value(
 }
 
 // The node of this number, before it has a parent.
-fn make_node(alloc: Global, doc: &Document, id: u32) -> Result<DomNode, NoMemory>
+fn make_node(alloc: Global, doc: &Document, id: u32) -> Result<NodeData, NoMemory>
     requires { id < length doc.now.nodes }
-    ensures { IfOk result (λ node. option_map (made_of doc.now.nodes id) (slice_get doc.now.nodes id) ≡ Some node) }
+    ensures is { IfOk result (λ d. option_map (made_of doc.now.nodes id) (slice_get doc.now.nodes id) ≡ Some (bare d)) }
+    ensures links { IfOk result (λ d. d.links ≡ no_links) }
 {
     let content = &doc.node(id).content;
-    Ok(DomNode {
+    Ok(NodeData {
         kind: kind_of(content)?,
         parent: None,
-        children: Children::new(alloc),
         attributes: attributes_of(alloc, content)?,
         value: start_value(alloc, doc, id, content)?,
+        links: Links::new(),
     })
 }
 
@@ -102,28 +102,28 @@ fn make_node(alloc: Global, doc: &Document, id: u32) -> Result<DomNode, NoMemory
 fn add_node(
     alloc: Global,
     doc: &Document,
-    nodes: &mut Vec<DomNode>,
+    nodes: &mut Vec<NodeData>,
     id: u32,
 ) -> Result<(), NoMemory>
     requires numbered { IsNumbered doc.now.nodes }
     requires some { 0 < id }
     requires id { id < length doc.now.nodes }
-    requires fits { Fits nodes.old.items }
-    requires front { IsFront doc.now.nodes (take id doc.now.nodes) nodes.old.items }
-    ensures fits { OnOk result (Fits nodes.new.items) }
-    ensures front { OnOk result (IsFront doc.now.nodes (take (id + 1) doc.now.nodes) nodes.new.items) }
+    requires linked { IsLinked nodes.old.items }
+    requires front { IsFront doc.now.nodes (take id doc.now.nodes) (nodes_of nodes.old.items) }
+    ensures linked { OnOk result (IsLinked nodes.new.items) }
+    ensures front { OnOk result (IsFront doc.now.nodes (take (id + 1) doc.now.nodes) (nodes_of nodes.new.items)) }
 {
     let node = make_node(alloc, doc, id)?;
     push_node(nodes, node)?;
     let above = doc.node(id).parent;
     match above {
-        Some(parent) => append_child(nodes, parent, id)?,
+        Some(parent) => append_child(nodes, parent, id),
         None => unreachable!(),
     }
     Ok(())
 }
 
-fn list_of(alloc: Global, node: DomNode) -> Result<Vec<DomNode>, AllocError>
+fn list_of(alloc: Global, node: NodeData) -> Result<Vec<NodeData>, AllocError>
     ensures { IfOk result (λ nodes. nodes.items ≡ node ∷ []) }
 {
     let mut nodes = Vec::new(alloc);
@@ -132,10 +132,10 @@ fn list_of(alloc: Global, node: DomNode) -> Result<Vec<DomNode>, AllocError>
 }
 
 /// All nodes of a page.
-pub(crate) fn read_nodes(alloc: Global, doc: &Document) -> Result<Vec<DomNode>, NoMemory>
-    ensures fits { IfOk result (λ nodes. Fits nodes.items) }
+pub(crate) fn read_nodes(alloc: Global, doc: &Document) -> Result<Vec<NodeData>, NoMemory>
+    ensures linked { IfOk result (λ nodes. IsLinked nodes.items) }
     ensures few { IfOk result (λ nodes. vec_len nodes < 2 ^ 32) }
-    ensures read { IfOk result (λ nodes. IsRead doc.now.nodes nodes.items) }
+    ensures read { IfOk result (λ nodes. IsRead doc.now.nodes (nodes_of nodes.items)) }
 {
     let count = doc.count();
     let document = make_node(alloc, doc, 0)?;

@@ -39,8 +39,5 @@ pub(crate) fn is_word(text: &JText, word: &[u8]) -> bool
 pub(crate) fn no_text(alloc: Global) -> Result<JText, NoMemory>
     ensures { IfOk result (λ text. text ≡ []) }
 {
-    match JText::from_utf8(alloc, b"") {
-        Ok(text) => Ok(text),
-        Err(_) => Err(NoMemory),
-    }
+    JText::from_units(alloc, &[])
 }

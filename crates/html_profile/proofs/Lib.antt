@@ -13,3 +13,6 @@ pub mod Utf8Parts
 pub mod UnitPlaces
 pub mod Utf8Pieces
 pub mod Utf8Page
+pub mod Inserted
+pub mod Shapes
+pub mod Spans

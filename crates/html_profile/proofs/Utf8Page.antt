@@ -12,24 +12,24 @@ use Rattle.html_profile.specs.Page.{opens_prelude, without_prelude}
 use Rattle.html_profile.specs.declared.mark.Mark.TheVariants.{TagEnd, Ink}
 use Rattle.html_profile.proofs.Utf8Parts.{opens_same, opens_at, there, behind_opening, placed, stands_low}
 
-abbrev byte_order_mark : List ℕ
+abbrev pub byte_order_mark : List ℕ
 byte_order_mark = 0xEF ∷ 0xBB ∷ 0xBF ∷ []
 
 mark_bytes : encode_utf8 0xFEFF ≡ byte_order_mark
 unfolding encode
 mark_bytes = refl
 
-take_drop : (n : ℕ) (bs : List ℕ) → take n bs ++ drop n bs ≡ bs
+pub take_drop : (n : ℕ) (bs : List ℕ) → take n bs ++ drop n bs ≡ bs
 take_drop zero bs = refl
 take_drop (suc n) [] = refl
 take_drop (suc n) (b ∷ bs) = ap (λ l. b ∷ l) (take_drop n bs)
 
-drop_add : (m k : ℕ) (bs : List ℕ) → drop (m + k) bs ≡ drop k (drop m bs)
+pub drop_add : (m k : ℕ) (bs : List ℕ) → drop (m + k) bs ≡ drop k (drop m bs)
 drop_add zero k bs = ap (λ n. drop n bs) (omega arith)
 drop_add (suc m) k [] = drop_all (suc m + k) [] (omega arith) ∙ sym (drop_all k [] (omega arith))
 drop_add (suc m) k (b ∷ bs) = let e : suc m + k ≡ suc (m + k) = omega arith in ap (λ n. drop n (b ∷ bs)) e ∙ drop_add m k bs
 
-drop_within : (m k : ℕ) (bs rest : List ℕ) → m ≤ length bs → drop m (take (m + k) bs ++ rest) ≡ take k (drop m bs) ++ rest
+pub drop_within : (m k : ℕ) (bs rest : List ℕ) → m ≤ length bs → drop m (take (m + k) bs ++ rest) ≡ take k (drop m bs) ++ rest
 drop_within zero k bs rest within = ap (λ n. take n bs ++ rest) (omega arith)
 drop_within (suc m) k [] rest within = absurd (omega arith)
 drop_within (suc m) k (b ∷ bs) rest within =
@@ -49,7 +49,7 @@ marked bs is front =
 pub behind_mark : (bs : List ℕ) → IsUtf8 bs → IsUtf8 (drop (mark_len bs) bs)
 behind_mark bs is = cond_both (opens bs byte_order_mark) 3 0 (λ n. IsUtf8 (drop n bs)) (λ front. marked bs is front) (λ _. is)
 
-mark_within : (bs : List ℕ) → mark_len bs ≤ length bs
+pub mark_within : (bs : List ℕ) → mark_len bs ≤ length bs
 mark_within bs =
     cond_both (opens bs byte_order_mark) 3 0 (λ n. n ≤ length bs)
     (λ front. let at = opens_at bs byte_order_mark 2 front (omega arith) in let inside = there bs 2 (omega arith) in omega arith)
@@ -58,10 +58,10 @@ mark_within bs =
 -- ---- at the first place
 
 -- how far the doctype reaches
-abbrev doctype_len : List ℕ → ℕ
+abbrev pub doctype_len : List ℕ → ℕ
 doctype_len text = cond (opens_doctype (from Ink text)) (place Ink text + place TagEnd (from Ink text) + 1) 0
 
-place_split : (bs : List ℕ) → first_place bs ≡ mark_len bs + doctype_len (drop (mark_len bs) bs)
+pub place_split : (bs : List ℕ) → first_place bs ≡ mark_len bs + doctype_len (drop (mark_len bs) bs)
 place_split bs = by_test (opens_doctype (from Ink (drop (mark_len bs) bs)))
   where
     by_test : (b : Bool) → cond b (mark_len bs + place Ink (drop (mark_len bs) bs) + place TagEnd (from Ink (drop (mark_len bs) bs)) + 1) (mark_len bs)

@@ -15,3 +15,4 @@ pub mod PageFault
 pub mod Numbering
 pub mod Coherence
 pub mod Decoding
+pub mod Shape

@@ -1,5 +1,5 @@
 -- What a page is: its tree, the scripts that are run, and the handler attributes.
-use Rattle.std.specs.Prelude.{◌≡◌, ℕ, Bool, List, ◌++◌, length, take, drop, if◌then◌else◌}
+use Rattle.std.specs.Prelude.{◌≡◌, ◌↔◌, ℕ, Bool, List, ◌++◌, length, take, drop, if◌then◌else◌}
 use Rattle.html_profile.specs.Marks.{opens}
 use Rattle.html_profile.specs.FirstPlace.{mark_len, first_place}
 use Rattle.html_profile.specs.Pieces.{ArePieces}
@@ -31,6 +31,10 @@ abbrev pub without_prelude : List ℕ → List ℕ
 without_prelude bytes =
     if opens_prelude (drop (first_place bytes) bytes) then take (first_place bytes) bytes ++ drop 450 (drop (first_place bytes) bytes) else bytes
 
+-- the bytes with the inserted script at the first place
+abbrev pub with_inserted : List ℕ → List ℕ
+with_inserted bytes = take (first_place bytes) bytes ++ (inserted_script ++ drop (first_place bytes) bytes)
+
 abbrev pub page_of : State → Page
 page_of s = record { nodes = s.nodes; scripts = s.scripts; handlers = s.handlers; names = s.names }
 
@@ -45,3 +49,8 @@ IsPage bytes page = IsPageBehind (mark_len bytes) (without_prelude bytes) page
 -- the page that the bytes are where nothing is taken out; places count every byte
 abbrev pub IsWholePage : List ℕ → Page → Type 0
 IsWholePage bytes page = IsPageBehind (mark_len bytes) bytes page
+
+-- what the inserted script changes of these bytes, which have none at their first place: not where it stands, and not what is read
+pub record IsPassedOver (bytes : List ℕ) : Type 0 where
+  pub place : first_place (with_inserted bytes) ≡ first_place bytes
+  pub page : (page : Page) → IsPage (with_inserted bytes) page ↔ IsPage bytes page

@@ -1,5 +1,6 @@
 -- Where the units of a script's text stand in its bytes.
-use Rattle.std.specs.Prelude.{ℕ, ◌+◌, ◌-◌, ◌&&◌, List, [], ◌∷◌, ◌==◌, nat_lt, nat_le, if◌then◌else◌}
+use Rattle.std.specs.Prelude.{ℕ, ◌+◌, ◌-◌, ◌≤◌, length, All, ◌&&◌, List, [], ◌∷◌, ◌==◌, nat_lt, nat_le, if◌then◌else◌}
+use Rattle.html_profile.specs.declared.document.ScriptAt.{ScriptAt}
 
 -- how many units begin at a byte that stands behind another: a line feed behind a carriage return begins none, since both read as one
 -- line feed (Infra, "normalize newlines"), and a character's later bytes begin none; a character of four bytes is two units
@@ -17,3 +18,7 @@ place_behind before n (c ∷ rest) = if nat_lt n (units_at before c) then 0 else
 -- the place in a script's bytes of the unit of this number
 abbrev pub unit_place : ℕ → List ℕ → ℕ
 unit_place n bytes = place_behind 0 n bytes
+
+-- the bytes of each script lie within a page of this length
+abbrev pub LieWithin : ℕ → List ScriptAt → Type 0
+LieWithin total scripts = All (λ s. s.at + length s.source ≤ total) scripts

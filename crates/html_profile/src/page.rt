@@ -118,7 +118,8 @@ impl Document {
     /// The offset of the byte at which a unit of a script's text begins, counted as the script's place is.
     pub fn script_byte(&self, script: usize, unit: usize) -> usize
         requires { script < length self.now.scripts }
-        ensures { IfSome (slice_get self.now.scripts script) (λ s. result ≡ s.at + unit_place unit s.source) }
+        ensures is { IfSome (slice_get self.now.scripts script) (λ s. result ≡ s.at + unit_place unit s.source) }
+        ensures within { IfSome (slice_get self.now.scripts script) (λ s. result ≤ s.at + length s.source) }
     {
         let found = &self.scripts[script];
         found.at + unit_place(found.source.as_slice(), unit)

@@ -217,9 +217,25 @@ fn node_line(alloc: Global, dom: &Dom, id: u32) -> Result<String, NoMemory>
         out.push_str("!")?;
         out.push_str(text_line(alloc, value)?.as_str())?;
     }
-    for child in node.children.as_slice() {
-        out.push_str(format!(in alloc; ",{child}")?.as_str())?;
-    }
+    out.push_str(children_line(alloc, dom, id)?.as_str())?;
     out.push_str("|")?;
+    Ok(out)
+}
+
+// The children of a node, each with a comma before it.
+fn children_line(alloc: Global, dom: &Dom, id: u32) -> Result<String, NoMemory>
+    requires { id < length dom.now }
+{
+    let mut out = String::new(alloc);
+    let mut child = dom.first_child(id);
+    for _ in 0..dom.count() {
+        match child {
+            Some(here) if here < dom.count() => {
+                out.push_str(format!(in alloc; ",{here}")?.as_str())?;
+                child = dom.next_sibling(here);
+            }
+            _ => break,
+        }
+    }
     Ok(out)
 }

@@ -49,10 +49,8 @@ fn bytes_of(alloc: Global, written: &str) -> Result<Vec<u8>, NoMemory> {
 }
 
 fn push(bytes: &mut Vec<u8>, byte: u8) -> Result<(), NoMemory> {
-    match bytes.push(byte) {
-        Ok(()) => Ok(()),
-        Err(_) => Err(NoMemory),
-    }
+    bytes.push(byte)?;
+    Ok(())
 }
 
 // Adds what stands behind a backslash, and says how long it is written.

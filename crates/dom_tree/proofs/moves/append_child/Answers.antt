@@ -1,31 +1,28 @@
-use Rattle.std.proofs.Common.{sym, ap, subst, ◌∙◌, Some}
-use Rattle.dom_tree.specs.Nodes.{Fits}
-use Rattle.dom_tree.specs.Changes.{at_end, changed, with_parent, left}
-use Rattle.dom_tree.proofs.Points.{placed_within, there_behind, left_behind}
-use Rattle.dom_tree.proofs.Moved.{appended_fits}
+use Rattle.std.proofs.Common.{◌<◌, length, sym, ap, subst, ◌∙◌}
+use Rattle.dom_tree.specs.Nodes.{parent_of, Fits}
+use Rattle.dom_tree.specs.Changes.{at_end, appended}
+use Rattle.dom_tree.specs.inner.Kept.{nodes_of}
+use Rattle.dom_tree.proofs.Kept.{nodes_length}
+use Rattle.dom_tree.proofs.Moved.{removed_here, appended_fits, placed_gone}
 use Rattle.dom_tree.proofs.moves.append_child.Goals as goal
 
-pub returns-then-is_child-clause-ok : goal.returns-then-is_child-clause-ok
-returns-then-is_child-clause-ok c = c.move_to_end.ensures ∙ placed_within (at_end c.args.child) c.args.parent c.args.child c.args.nodes.now (sym c.is_child.ensures ∙ c.if-is_child.true)
+pub link_last-requires-clause-free : goal.link_last-requires-clause-free
+link_last-requires-clause-free c =
+    ap (λ l. parent_of l c.args.child) c.remove_child.ensures.is
+    ∙ removed_here (nodes_of c.args.nodes.now) c.requires.linked.fits c.args.child (subst (λ n. c.args.child < n) (sym (nodes_length c.args.nodes.now)) c.requires.child)
 
-pub returns-then-is_child-clause-fits : goal.returns-then-is_child-clause-fits
-returns-then-is_child-clause-fits c =
-    let is = c.move_to_end.ensures ∙ placed_within (at_end c.args.child) c.args.parent c.args.child c.args.nodes.now (sym c.is_child.ensures ∙ c.if-is_child.true) in
-    subst Fits (sym is) (appended_fits c.args.nodes.now c.requires.fits c.args.parent c.args.child c.requires.parent c.requires.child c.requires.valid)
+pub link_last-requires-clause-fits : goal.link_last-requires-clause-fits
+link_last-requires-clause-fits c =
+    let parent_there = subst (λ n. c.args.parent < n) (sym (nodes_length c.args.nodes.now)) c.requires.parent in
+    let child_there = subst (λ n. c.args.child < n) (sym (nodes_length c.args.nodes.now)) c.requires.child in
+    subst Fits
+    (sym (ap (appended c.args.parent c.args.child) c.remove_child.ensures.is
+    ∙ placed_gone (nodes_of c.args.nodes.now) c.requires.linked.fits c.args.parent c.args.child parent_there child_there c.requires.valid (at_end c.args.child)))
+    (appended_fits (nodes_of c.args.nodes.now) c.requires.linked.fits c.args.parent c.args.child parent_there child_there c.requires.valid)
 
-pub leave-requires-clause-there : goal.leave-requires-clause-there
-leave-requires-clause-there c = rw c.in_ok-add_child.ensures.ok (there_behind c.args.nodes.now c.requires.fits c.args.child (at_end c.args.child) c.args.parent (sym c.is_child.ensures ∙ c.if-is_child.false))
-
-pub returns-clause-ok : goal.returns-clause-ok
-returns-clause-ok c =
-    c.set_parent.ensures
-    ∙ ap (changed (with_parent (Some c.args.parent)) c.args.child)
-    (c.leave.ensures ∙ ap (left c.args.child) c.in_ok-add_child.ensures.ok ∙ left_behind c.args.nodes.now c.requires.fits c.args.child (at_end c.args.child) c.args.parent (sym c.is_child.ensures ∙ c.if-is_child.false))
-
-pub returns-clause-fits : goal.returns-clause-fits
-returns-clause-fits c =
-    let is =
-    c.set_parent.ensures
-    ∙ ap (changed (with_parent (Some c.args.parent)) c.args.child)
-    (c.leave.ensures ∙ ap (left c.args.child) c.in_ok-add_child.ensures.ok ∙ left_behind c.args.nodes.now c.requires.fits c.args.child (at_end c.args.child) c.args.parent (sym c.is_child.ensures ∙ c.if-is_child.false)) in
-    subst Fits (sym is) (appended_fits c.args.nodes.now c.requires.fits c.args.parent c.args.child c.requires.parent c.requires.child c.requires.valid)
+pub returns-clause-is : goal.returns-clause-is
+returns-clause-is c =
+    let parent_there = subst (λ n. c.args.parent < n) (sym (nodes_length c.args.nodes.now)) c.requires.parent in
+    let child_there = subst (λ n. c.args.child < n) (sym (nodes_length c.args.nodes.now)) c.requires.child in
+    c.link_last.ensures.is ∙ ap (appended c.args.parent c.args.child) c.remove_child.ensures.is
+    ∙ placed_gone (nodes_of c.args.nodes.now) c.requires.linked.fits c.args.parent c.args.child parent_there child_there c.requires.valid (at_end c.args.child)

@@ -1,31 +1,34 @@
-use Rattle.std.proofs.Common.{sym, ap, subst, ◌∙◌, Some}
-use Rattle.dom_tree.specs.Nodes.{Fits}
-use Rattle.dom_tree.specs.Changes.{put_before, changed, with_parent, left}
-use Rattle.dom_tree.proofs.Points.{placed_within, there_behind, left_behind}
-use Rattle.dom_tree.proofs.Moved.{inserted_fits}
+use Rattle.std.proofs.Common.{◌≢◌, ◌<◌, length, sym, ap, subst, ◌∙◌}
+use Rattle.dom_tree.specs.Nodes.{parent_of, is_one, is_child, Fits}
+use Rattle.dom_tree.specs.Changes.{put_before, placed}
+use Rattle.dom_tree.specs.inner.Kept.{nodes_of}
+use Rattle.dom_tree.proofs.Kept.{nodes_length}
+use Rattle.dom_tree.proofs.Moved.{removed_here, removed_others, inserted_fits, placed_gone}
 use Rattle.dom_tree.proofs.moves.insert_child.Goals as goal
 
-pub returns-then-is_child-clause-ok : goal.returns-then-is_child-clause-ok
-returns-then-is_child-clause-ok c = c.move_before.ensures ∙ placed_within (put_before c.args.before c.args.child) c.args.parent c.args.child c.args.nodes.now (sym c.is_child.ensures ∙ c.if-is_child.true)
+pub link_before-requires-clause-free : goal.link_before-requires-clause-free
+link_before-requires-clause-free c =
+    ap (λ l. parent_of l c.args.child) c.remove_child.ensures.is
+    ∙ removed_here (nodes_of c.args.nodes.now) c.requires.linked.fits c.args.child (subst (λ n. c.args.child < n) (sym (nodes_length c.args.nodes.now)) c.requires.child)
 
-pub returns-then-is_child-clause-fits : goal.returns-then-is_child-clause-fits
-returns-then-is_child-clause-fits c =
-    let is = c.move_before.ensures ∙ placed_within (put_before c.args.before c.args.child) c.args.parent c.args.child c.args.nodes.now (sym c.is_child.ensures ∙ c.if-is_child.true) in
-    subst Fits (sym is) (inserted_fits c.args.nodes.now c.requires.fits c.args.parent c.args.child c.requires.parent c.requires.child c.requires.valid c.args.before c.requires.before c.requires.apart)
+pub link_before-requires-clause-before : goal.link_before-requires-clause-before
+link_before-requires-clause-before c =
+    ap (λ l. is_child l c.args.parent c.args.before) c.remove_child.ensures.is
+    ∙ ap (is_one c.args.parent) (removed_others (nodes_of c.args.nodes.now) c.requires.linked.fits c.args.child (subst (λ n. c.args.child < n) (sym (nodes_length c.args.nodes.now)) c.requires.child) c.args.before (λ is. c.requires.apart (sym is)))
+    ∙ c.requires.before
 
-pub leave-requires-clause-there : goal.leave-requires-clause-there
-leave-requires-clause-there c = rw c.in_ok-add_before.ensures.ok (there_behind c.args.nodes.now c.requires.fits c.args.child (put_before c.args.before c.args.child) c.args.parent (sym c.is_child.ensures ∙ c.if-is_child.false))
+pub link_before-requires-clause-fits : goal.link_before-requires-clause-fits
+link_before-requires-clause-fits c =
+    let parent_there = subst (λ n. c.args.parent < n) (sym (nodes_length c.args.nodes.now)) c.requires.parent in
+    let child_there = subst (λ n. c.args.child < n) (sym (nodes_length c.args.nodes.now)) c.requires.child in
+    subst Fits
+    (sym (ap (placed (put_before c.args.before c.args.child) c.args.parent c.args.child) c.remove_child.ensures.is
+    ∙ placed_gone (nodes_of c.args.nodes.now) c.requires.linked.fits c.args.parent c.args.child parent_there child_there c.requires.valid (put_before c.args.before c.args.child)))
+    (inserted_fits (nodes_of c.args.nodes.now) c.requires.linked.fits c.args.parent c.args.child parent_there child_there c.requires.valid c.args.before c.requires.before c.requires.apart)
 
-pub returns-clause-ok : goal.returns-clause-ok
-returns-clause-ok c =
-    c.set_parent.ensures
-    ∙ ap (changed (with_parent (Some c.args.parent)) c.args.child)
-    (c.leave.ensures ∙ ap (left c.args.child) c.in_ok-add_before.ensures.ok ∙ left_behind c.args.nodes.now c.requires.fits c.args.child (put_before c.args.before c.args.child) c.args.parent (sym c.is_child.ensures ∙ c.if-is_child.false))
-
-pub returns-clause-fits : goal.returns-clause-fits
-returns-clause-fits c =
-    let is =
-    c.set_parent.ensures
-    ∙ ap (changed (with_parent (Some c.args.parent)) c.args.child)
-    (c.leave.ensures ∙ ap (left c.args.child) c.in_ok-add_before.ensures.ok ∙ left_behind c.args.nodes.now c.requires.fits c.args.child (put_before c.args.before c.args.child) c.args.parent (sym c.is_child.ensures ∙ c.if-is_child.false)) in
-    subst Fits (sym is) (inserted_fits c.args.nodes.now c.requires.fits c.args.parent c.args.child c.requires.parent c.requires.child c.requires.valid c.args.before c.requires.before c.requires.apart)
+pub returns-clause-is : goal.returns-clause-is
+returns-clause-is c =
+    let parent_there = subst (λ n. c.args.parent < n) (sym (nodes_length c.args.nodes.now)) c.requires.parent in
+    let child_there = subst (λ n. c.args.child < n) (sym (nodes_length c.args.nodes.now)) c.requires.child in
+    c.link_before.ensures.is ∙ ap (placed (put_before c.args.before c.args.child) c.args.parent c.args.child) c.remove_child.ensures.is
+    ∙ placed_gone (nodes_of c.args.nodes.now) c.requires.linked.fits c.args.parent c.args.child parent_there child_there c.requires.valid (put_before c.args.before c.args.child)

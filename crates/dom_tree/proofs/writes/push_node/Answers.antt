@@ -1,7 +1,12 @@
-use Rattle.std.proofs.Common.{sym, subst}
-use Rattle.dom_tree.specs.Nodes.{Fits}
-use Rattle.dom_tree.proofs.Fitting.{grown_fits}
+use Rattle.std.proofs.Common.{ap, subst, sym, ◌∙◌}
+use Rattle.dom_tree.specs.inner.Kept.{nodes_of, IsLinked}
+use Rattle.dom_tree.proofs.Written.{grown}
 use Rattle.dom_tree.proofs.writes.push_node.Goals as goal
 
-pub returns-clause-fits : goal.returns-clause-fits
-returns-clause-fits c = subst Fits (sym c.in_ok-push.ensures.items) (grown_fits c.args.nodes.now.items c.requires.fits c.args.node c.requires.alone c.requires.childless c.requires.kind c.requires.value)
+pub returns-clause-ok : goal.returns-clause-ok
+returns-clause-ok c =
+    ap nodes_of c.in_ok-push.ensures.items ∙ (grown c.args.nodes.now.items c.requires.linked c.args.node c.requires.alone c.requires.links c.requires.kind c.requires.value).0
+
+pub returns-clause-linked : goal.returns-clause-linked
+returns-clause-linked c =
+    subst IsLinked (sym c.in_ok-push.ensures.items) (grown c.args.nodes.now.items c.requires.linked c.args.node c.requires.alone c.requires.links c.requires.kind c.requires.value).1

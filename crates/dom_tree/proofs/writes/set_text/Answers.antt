@@ -1,10 +1,8 @@
-use Rattle.dom_tree.specs.Names.{with_text}
-use Rattle.dom_tree.proofs.Items.{set_is_changed}
-use Rattle.dom_tree.proofs.Fitting.{text_fits}
+use Rattle.dom_tree.proofs.Written.{text_written}
 use Rattle.dom_tree.proofs.writes.set_text.Goals as goal
 
 pub returns-clause-is : goal.returns-clause-is
-returns-clause-is c = set_is_changed (with_text c.args.text) c.args.node c.args.nodes.now c.index-nodes-node.result c.requires.node
+returns-clause-is c = (text_written c.args.nodes.now c.requires.linked c.args.node c.index-nodes-node.result c.requires.node c.args.text c.requires.text).0
 
-pub returns-clause-fits : goal.returns-clause-fits
-returns-clause-fits c = text_fits c.args.nodes.now c.requires.fits c.args.node c.index-nodes-node.result c.requires.node c.args.text c.requires.text
+pub returns-clause-linked : goal.returns-clause-linked
+returns-clause-linked c = (text_written c.args.nodes.now c.requires.linked c.args.node c.index-nodes-node.result c.requires.node c.args.text c.requires.text).1
