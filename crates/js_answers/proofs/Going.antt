@@ -1,11 +1,12 @@
 -- A step of a reading goes one step of what the text ends in.
-use Rattle.std.proofs.Common.{◌≡◌, ◌≢◌, ℕ, ◌+◌, ◌≤◌, ◌<◌, true, false, List, [], ◌∷◌, ◌++◌, reverse, refl, sym, ◌∙◌, ap, subst}
+use Rattle.std.proofs.Common.{◌≡◌, ◌≢◌, ℕ, zero, suc, ◌+◌, ◌≤◌, ◌<◌, true, false, List, [], ◌∷◌, ◌++◌, length, reverse, Option, Some, None, refl, sym, ◌∙◌, ap, subst, arith}
 use Rattle.js_tokens.specs.declared.token.Tokens.{Tokens}
 use Rattle.js_tokens.specs.declared.word.Word.{Word}
 use Rattle.js_tokens.specs.declared.word.Word.TheVariants as w
 use Rattle.js_tree.specs.Trees.{Tree}
+use Rattle.js_answers.specs.declared.plain.End.{End as Ending}
+use Rattle.js_answers.specs.declared.plain.End.TheVariants as end
 use Rattle.js_answers.specs.declared.plain.PlainAnswer.{PlainAnswer}
-use Rattle.js_answers.specs.declared.plain.PlainAnswer.TheVariants as answer
 use Rattle.js_answers.specs.declared.plain.Reading.{Reading}
 use Rattle.js_answers.specs.declared.plain.Step.{Step}
 use Rattle.js_answers.specs.declared.plain.Step.TheVariants as step
@@ -15,152 +16,247 @@ use Rattle.js_grammar.specs.declared.symbol.Build.{Build}
 use Rattle.js_grammar.specs.declared.symbol.Nonterminal.{Nonterminal}
 use Rattle.js_grammar.specs.declared.symbol.Open.{Open}
 use Rattle.js_grammar.specs.declared.symbol.Start.{Start}
+use Rattle.js_grammar.specs.declared.symbol.Start.TheVariants as start_of
 use Rattle.js_grammar.specs.declared.symbol.Symbol.{Symbol}
 use Rattle.js_grammar.specs.declared.symbol.Symbol.TheVariants.{Word as T, End, Semicolon, FreeSemicolon, Never, Part, Build as Makes, Leave}
+use Rattle.js_grammar.specs.inner.Ranks.{Balanced, front}
 use Rattle.js_grammar.specs.Sights.{sight, may_insert}
 use Rattle.js_grammar.specs.Parts.{nesting}
 use Rattle.js_grammar.specs.Grammar.{produce}
 use Rattle.js_grammar.specs.Derivations.{built, beginning}
-use Rattle.js_grammar.specs.Answers.{limit, Outcome, Accepted, Unexpected, TooDeep}
+use Rattle.js_grammar.specs.Answers.{Text, limit, Outcome, Accepted, Unexpected, TooDeep}
 use Rattle.js_grammar.specs.Ends.{Ends}
 use Rattle.js_grammar.specs.Ends as ends
+use Rattle.js_grammar.proofs.Total.{opened, lighter, built_left, balanced_beginning, end_seen}
 use Rattle.js_answers.specs.Forest.{Holds, HoldsTrees}
-use Rattle.js_answers.specs.Plainly.{text_of, Shows, IsAt, Goes}
+use Rattle.js_answers.specs.Plainly.{text_of, Shows, IsAt, HasTrees, GoesWith, IsBehind, EndsSo, Goes, GoesFrom, Arrives, ArrivesFrom, symbols_of}
 
 -- the reading behind the next token
 abbrev pub beyond : Tokens → Names → Reading → Reading
 beyond tokens names r = record r { place = r.place + 1; sight = sight names tokens (r.place + 1) }
 
+-- a word that is seen is a token of the text
+within : {tokens : Tokens} {names : Names} {r : Reading} → IsAt tokens names r → (v : Word) → r.sight.seen ≡ seen.Word v → r.place < length tokens.items
+within {tokens = tokens} {names = names} {r = r} a v e = below r.place (length tokens.items) (λ l. cc (sym e ∙ ap (λ u. u.seen) a.seen ∙ end_seen (text_of tokens names start_of.Program) r.place l))
+  where
+    below : (a b : ℕ) → (b ≤ a → ⊥) → a < b
+    below zero zero f = absurd (f (omega arith))
+    below zero (suc b) f = omega arith
+    below (suc a) zero f = absurd (f (omega arith))
+    below (suc a) (suc b) f = (let l : a < b = below a b (λ h. f (omega arith)) in omega arith)
+
 -- A word -------------------------------------------------------------------------------------------------------------------
 
-pub word_refused : {tokens : Tokens} {names : Names} {r : Reading} → IsAt tokens names r → (start : Start) (vs : List Tree) (v : Word) → r.sight.seen ≢ seen.Word v →
-    Ends (text_of tokens names start) (T v ∷ reverse r.stack.items) vs r.place (Unexpected r.place)
-word_refused a start vs v n = ends.refused (λ e. n (ap (λ u. u.seen) a.seen ∙ e))
+pub word_refused : {tokens : Tokens} {names : Names} {r : Reading} → IsAt tokens names r → (v : Word) → r.sight.seen ≢ seen.Word v →
+    GoesFrom tokens names (T v ∷ symbols_of r) r (step.Ended (end.Unexpected r.place)) r
+word_refused a v n start vs h = ends.refused (λ e. n (ap (λ u. u.seen) a.seen ∙ e))
 
-pub word_deep : {tokens : Tokens} {names : Names} {r : Reading} → IsAt tokens names r → (start : Start) (vs : List Tree) (v : Word) → r.sight.seen ≡ seen.Word v → limit < nesting (reverse r.stack.items) →
-    Ends (text_of tokens names start) (T v ∷ reverse r.stack.items) vs r.place (TooDeep r.place)
-word_deep a start vs v e l = ends.deep (sym (ap (λ u. u.seen) a.seen) ∙ e) l
+pub word_deep : {tokens : Tokens} {names : Names} {r : Reading} → IsAt tokens names r → (v : Word) → r.sight.seen ≡ seen.Word v → limit < nesting (symbols_of r) →
+    GoesFrom tokens names (T v ∷ symbols_of r) r (step.Ended (end.TooDeep r.place)) r
+word_deep a v e l start vs h = ends.deep (sym (ap (λ u. u.seen) a.seen) ∙ e) l
 
-pub word_on : {tokens : Tokens} {names : Names} {r : Reading} → IsAt tokens names r → (start : Start) (vs : List Tree) (v : Word) → r.sight.seen ≡ seen.Word v → nesting (reverse r.stack.items) ≤ limit →
-    (now : Reading) → now ≡ beyond tokens names r → HoldsTrees r.trees vs → Goes (text_of tokens names start) (T v ∷ reverse r.stack.items) vs r.place step.On now
-word_on {tokens = tokens} {names = names} {r = r} a start vs v e l now is h =
-    subst (λ z. Goes (text_of tokens names start) (T v ∷ reverse r.stack.items) vs r.place step.On z) (sym is) (vs, h, λ o d. ends.reads (sym (ap (λ u. u.seen) a.seen) ∙ e) l d)
+pub word_on : {tokens : Tokens} {names : Names} {r : Reading} → IsAt tokens names r → (v : Word) → r.sight.seen ≡ seen.Word v → nesting (symbols_of r) ≤ limit →
+    (now : Reading) → now ≡ beyond tokens names r → GoesFrom tokens names (T v ∷ symbols_of r) r step.Behind now
+word_on {tokens = tokens} {names = names} {r = r} a v e l now is start vs h =
+    subst (λ z. Goes (text_of tokens names start) (T v ∷ symbols_of r) vs r.place step.Behind z) (sym is)
+    (record { trees = vs; has = record { holds = h.holds; balanced = h.balanced }; on = λ o d. ends.reads (sym (ap (λ u. u.seen) a.seen) ∙ e) l d }, refl, within a v e)
 
 -- A semicolon --------------------------------------------------------------------------------------------------------------
 
-pub semicolon_on : {tokens : Tokens} {names : Names} {r : Reading} → IsAt tokens names r → (start : Start) (vs : List Tree) → r.sight.seen ≡ seen.Word w.Semicolon → nesting (reverse r.stack.items) ≤ limit →
-    (now : Reading) → now ≡ beyond tokens names r → HoldsTrees r.trees vs → Goes (text_of tokens names start) (Semicolon ∷ reverse r.stack.items) vs r.place step.On now
-semicolon_on {tokens = tokens} {names = names} {r = r} a start vs e l now is h =
-    subst (λ z. Goes (text_of tokens names start) (Semicolon ∷ reverse r.stack.items) vs r.place step.On z) (sym is) (vs, h, λ o d. ends.semicolon (sym (ap (λ u. u.seen) a.seen) ∙ e) l d)
+pub semicolon_on : {tokens : Tokens} {names : Names} {r : Reading} → IsAt tokens names r → r.sight.seen ≡ seen.Word w.Semicolon → nesting (symbols_of r) ≤ limit →
+    (now : Reading) → now ≡ beyond tokens names r → GoesFrom tokens names (Semicolon ∷ symbols_of r) r step.Behind now
+semicolon_on {tokens = tokens} {names = names} {r = r} a e l now is start vs h =
+    subst (λ z. Goes (text_of tokens names start) (Semicolon ∷ symbols_of r) vs r.place step.Behind z) (sym is)
+    (record { trees = vs; has = record { holds = h.holds; balanced = h.balanced }; on = λ o d. ends.semicolon (sym (ap (λ u. u.seen) a.seen) ∙ e) l d }, refl, within a w.Semicolon e)
 
-pub semicolon_deep : {tokens : Tokens} {names : Names} {r : Reading} → IsAt tokens names r → (start : Start) (vs : List Tree) → r.sight.seen ≡ seen.Word w.Semicolon → limit < nesting (reverse r.stack.items) →
-    Ends (text_of tokens names start) (Semicolon ∷ reverse r.stack.items) vs r.place (TooDeep r.place)
-semicolon_deep a start vs e l = ends.deep_semicolon (sym (ap (λ u. u.seen) a.seen) ∙ e) l
+pub semicolon_deep : {tokens : Tokens} {names : Names} {r : Reading} → IsAt tokens names r → r.sight.seen ≡ seen.Word w.Semicolon → limit < nesting (symbols_of r) →
+    GoesFrom tokens names (Semicolon ∷ symbols_of r) r (step.Ended (end.TooDeep r.place)) r
+semicolon_deep a e l start vs h = ends.deep_semicolon (sym (ap (λ u. u.seen) a.seen) ∙ e) l
 
-pub semicolon_inserted : {tokens : Tokens} {names : Names} {r : Reading} → IsAt tokens names r → (start : Start) (vs : List Tree) → r.sight.seen ≢ seen.Word w.Semicolon → may_insert r.sight ≡ true →
-    HoldsTrees r.trees vs → Goes (text_of tokens names start) (Semicolon ∷ reverse r.stack.items) vs r.place step.On r
-semicolon_inserted a start vs n m h = (vs, h, λ o d. ends.inserted (λ e. n (ap (λ u. u.seen) a.seen ∙ e)) (sym (ap may_insert a.seen) ∙ m) d)
+pub semicolon_inserted : {tokens : Tokens} {names : Names} {r : Reading} → IsAt tokens names r → r.sight.seen ≢ seen.Word w.Semicolon → may_insert r.sight ≡ true →
+    GoesFrom tokens names (Semicolon ∷ symbols_of r) r step.On r
+semicolon_inserted a n m start vs h =
+    (record { trees = vs; has = record { holds = h.holds; balanced = h.balanced }; on = λ o d. ends.inserted (λ e. n (ap (λ u. u.seen) a.seen ∙ e)) (sym (ap may_insert a.seen) ∙ m) d }, refl, omega arith)
 
-pub semicolon_missing : {tokens : Tokens} {names : Names} {r : Reading} → IsAt tokens names r → (start : Start) (vs : List Tree) → r.sight.seen ≢ seen.Word w.Semicolon → may_insert r.sight ≡ false →
-    Ends (text_of tokens names start) (Semicolon ∷ reverse r.stack.items) vs r.place (Unexpected r.place)
-semicolon_missing a start vs n m = ends.missing (λ e. n (ap (λ u. u.seen) a.seen ∙ e)) (sym (ap may_insert a.seen) ∙ m)
+pub semicolon_missing : {tokens : Tokens} {names : Names} {r : Reading} → IsAt tokens names r → r.sight.seen ≢ seen.Word w.Semicolon → may_insert r.sight ≡ false →
+    GoesFrom tokens names (Semicolon ∷ symbols_of r) r (step.Ended (end.Unexpected r.place)) r
+semicolon_missing a n m start vs h = ends.missing (λ e. n (ap (λ u. u.seen) a.seen ∙ e)) (sym (ap may_insert a.seen) ∙ m)
 
-pub free_on : {tokens : Tokens} {names : Names} {r : Reading} → IsAt tokens names r → (start : Start) (vs : List Tree) → r.sight.seen ≡ seen.Word w.Semicolon → nesting (reverse r.stack.items) ≤ limit →
-    (now : Reading) → now ≡ beyond tokens names r → HoldsTrees r.trees vs → Goes (text_of tokens names start) (FreeSemicolon ∷ reverse r.stack.items) vs r.place step.On now
-free_on {tokens = tokens} {names = names} {r = r} a start vs e l now is h =
-    subst (λ z. Goes (text_of tokens names start) (FreeSemicolon ∷ reverse r.stack.items) vs r.place step.On z) (sym is) (vs, h, λ o d. ends.free_semicolon (sym (ap (λ u. u.seen) a.seen) ∙ e) l d)
+pub free_on : {tokens : Tokens} {names : Names} {r : Reading} → IsAt tokens names r → r.sight.seen ≡ seen.Word w.Semicolon → nesting (symbols_of r) ≤ limit →
+    (now : Reading) → now ≡ beyond tokens names r → GoesFrom tokens names (FreeSemicolon ∷ symbols_of r) r step.Behind now
+free_on {tokens = tokens} {names = names} {r = r} a e l now is start vs h =
+    subst (λ z. Goes (text_of tokens names start) (FreeSemicolon ∷ symbols_of r) vs r.place step.Behind z) (sym is)
+    (record { trees = vs; has = record { holds = h.holds; balanced = h.balanced }; on = λ o d. ends.free_semicolon (sym (ap (λ u. u.seen) a.seen) ∙ e) l d }, refl, within a w.Semicolon e)
 
-pub free_deep : {tokens : Tokens} {names : Names} {r : Reading} → IsAt tokens names r → (start : Start) (vs : List Tree) → r.sight.seen ≡ seen.Word w.Semicolon → limit < nesting (reverse r.stack.items) →
-    Ends (text_of tokens names start) (FreeSemicolon ∷ reverse r.stack.items) vs r.place (TooDeep r.place)
-free_deep a start vs e l = ends.deep_free_semicolon (sym (ap (λ u. u.seen) a.seen) ∙ e) l
+pub free_deep : {tokens : Tokens} {names : Names} {r : Reading} → IsAt tokens names r → r.sight.seen ≡ seen.Word w.Semicolon → limit < nesting (symbols_of r) →
+    GoesFrom tokens names (FreeSemicolon ∷ symbols_of r) r (step.Ended (end.TooDeep r.place)) r
+free_deep a e l start vs h = ends.deep_free_semicolon (sym (ap (λ u. u.seen) a.seen) ∙ e) l
 
-pub free_inserted : {tokens : Tokens} {names : Names} {r : Reading} → IsAt tokens names r → (start : Start) (vs : List Tree) → r.sight.seen ≢ seen.Word w.Semicolon →
-    HoldsTrees r.trees vs → Goes (text_of tokens names start) (FreeSemicolon ∷ reverse r.stack.items) vs r.place step.On r
-free_inserted a start vs n h = (vs, h, λ o d. ends.free_inserted (λ e. n (ap (λ u. u.seen) a.seen ∙ e)) d)
+pub free_inserted : {tokens : Tokens} {names : Names} {r : Reading} → IsAt tokens names r → r.sight.seen ≢ seen.Word w.Semicolon →
+    GoesFrom tokens names (FreeSemicolon ∷ symbols_of r) r step.On r
+free_inserted a n start vs h =
+    (record { trees = vs; has = record { holds = h.holds; balanced = h.balanced }; on = λ o d. ends.free_inserted (λ e. n (ap (λ u. u.seen) a.seen ∙ e)) d }, refl, omega arith)
 
 -- The end ------------------------------------------------------------------------------------------------------------------
 
-pub end_refused : {tokens : Tokens} {names : Names} {r : Reading} → IsAt tokens names r → (start : Start) (vs : List Tree) → r.sight.seen ≢ seen.End →
-    Ends (text_of tokens names start) (End ∷ reverse r.stack.items) vs r.place (Unexpected r.place)
-end_refused a start vs n = ends.goes_on (λ e. n (ap (λ u. u.seen) a.seen ∙ e))
+pub end_refused : {tokens : Tokens} {names : Names} {r : Reading} → IsAt tokens names r → r.sight.seen ≢ seen.End →
+    GoesFrom tokens names (End ∷ symbols_of r) r (step.Ended (end.Unexpected r.place)) r
+end_refused a n start vs h = ends.goes_on (λ e. n (ap (λ u. u.seen) a.seen ∙ e))
 
-pub end_accepted : {tokens : Tokens} {names : Names} {r : Reading} → IsAt tokens names r → (start : Start) (vs : List Tree) (root : ℕ) → r.sight.seen ≡ seen.End → r.stack.items ≡ [] →
-    (t : Tree) × (vs ≡ t ∷ []) × Holds r.trees.forest.items.items root t → Goes (text_of tokens names start) (End ∷ reverse r.stack.items) vs r.place (step.Accepted root) r
-end_accepted {tokens = tokens} {names = names} {r = r} a start vs root e none (t, one, h) =
-    (t, h, subst (λ z. Ends (text_of tokens names start) (End ∷ reverse z) vs r.place (Accepted t)) (sym none) (subst (λ z. Ends (text_of tokens names start) (End ∷ []) z r.place (Accepted t)) (sym one) (ends.accepts (sym (ap (λ u. u.seen) a.seen) ∙ e))))
+-- at the end one tree is there
+pub only_one : (r : Reading) (s : List Symbol) → GoesWith r (End ∷ s) → (vs : List Tree) × HoldsTrees r.trees vs × (length vs ≡ 1)
+only_one r s (vs, h) = (vs, h.holds, h.balanced.0)
+
+pub end_accepted : {tokens : Tokens} {names : Names} {r : Reading} → IsAt tokens names r → (root : ℕ) (now : Reading) → r.sight.seen ≡ seen.End →
+    ((vs : List Tree) → HoldsTrees r.trees vs → length vs ≡ 1 → (t : Tree) × (vs ≡ t ∷ []) × Holds now.trees.forest.items.items root t) →
+    GoesFrom tokens names (End ∷ symbols_of r) r (step.Ended (end.Accepted root)) now
+end_accepted {tokens = tokens} {names = names} {r = r} a root now e has start vs h =
+    let (t, one, holds) = has vs h.holds h.balanced.0 in (
+      t,
+      holds,
+      subst (λ z. Ends (text_of tokens names start) (End ∷ z) vs r.place (Accepted t)) (sym h.balanced.1)
+          (subst (λ z. Ends (text_of tokens names start) (End ∷ []) z r.place (Accepted t)) (sym one) (ends.accepts (sym (ap (λ u. u.seen) a.seen) ∙ e))),
+    )
 
 -- What stands for more -----------------------------------------------------------------------------------------------------
 
-pub part_on : {tokens : Tokens} {names : Names} {r : Reading} → IsAt tokens names r → (start : Start) (vs : List Tree) (x : Nonterminal) (symbol : Symbol) (now : Reading) → symbol ≡ Part x → now ≡ record r { stack = now.stack } →
-    reverse now.stack.items ≡ produce x (reverse r.stack.items) r.sight vs ++ reverse r.stack.items → HoldsTrees r.trees vs → Goes (text_of tokens names start) (symbol ∷ reverse r.stack.items) vs r.place step.On now
-part_on {tokens = tokens} {names = names} {r = r} a start vs x symbol now s is p h = (
-  vs,
-  subst (λ z. HoldsTrees z.trees vs) (sym is) h,
-  λ o d.
-      let here = subst (λ z. Ends (text_of tokens names start) (reverse now.stack.items) vs z.place o) is d in
-      let more = subst (λ z. Ends (text_of tokens names start) z vs r.place o) (p ∙ ap (λ u. produce x (reverse r.stack.items) u vs ++ reverse r.stack.items) a.seen) here in
-      subst (λ z. Ends (text_of tokens names start) (z ∷ reverse r.stack.items) vs r.place o) (sym s) (ends.expands more),
+pub part_on : {tokens : Tokens} {names : Names} {r : Reading} → IsAt tokens names r → (x : Nonterminal) (symbol : Symbol) (now : Reading) → symbol ≡ Part x → now ≡ record r { stack = now.stack } →
+    ((vs : List Tree) → HoldsTrees r.trees vs → symbols_of now ≡ produce x (symbols_of r) r.sight vs ++ symbols_of r) → GoesFrom tokens names (symbol ∷ symbols_of r) r step.On now
+part_on {tokens = tokens} {names = names} {r = r} a x symbol now s is p start vs h =
+    let text = text_of tokens names start in
+    let said = p vs h.holds in
+    let balanced : Balanced (Part x ∷ symbols_of r) (length vs) = subst (λ z. Balanced (z ∷ symbols_of r) (length vs)) s h.balanced in
+    let less : front (produce x (symbols_of r) r.sight vs ++ symbols_of r) < front (Part x ∷ symbols_of r) = lighter x (symbols_of r) r.sight vs in (
+      record {
+        trees = vs;
+        has = record {
+          holds = subst (λ z. HoldsTrees z.trees vs) (sym is) h.holds;
+          balanced = subst (λ z. Balanced z (length vs)) (sym said) (opened x (symbols_of r) r.sight vs (length vs) balanced);
+        };
+        on = λ o d.
+            let here = subst (λ z. Ends text (symbols_of now) vs z.place o) is d in
+            let more = subst (λ z. Ends text z vs r.place o) (said ∙ ap (λ u. produce x (symbols_of r) u vs ++ symbols_of r) a.seen) here in
+            subst (λ z. Ends text (z ∷ symbols_of r) vs r.place o) (sym s) (ends.expands more);
+      },
+      ap (λ z. z.place) is,
+      subst (λ z. front (symbols_of now) < front (z ∷ symbols_of r)) (sym s) (subst (λ z. front z < front (Part x ∷ symbols_of r)) (sym said) less),
+    )
+
+pub build_on : {tokens : Tokens} {names : Names} {r : Reading} → IsAt tokens names r → (b : Build) (symbol : Symbol) (now : Reading) → symbol ≡ Makes b → now ≡ record r { trees = now.trees } →
+    ((vs : List Tree) → HoldsTrees r.trees vs → HoldsTrees now.trees (built b r.sight vs)) → GoesFrom tokens names (symbol ∷ symbols_of r) r step.On now
+build_on {tokens = tokens} {names = names} {r = r} a b symbol now s is p start vs h =
+    let text = text_of tokens names start in
+    let balanced : Balanced (Makes b ∷ symbols_of r) (length vs) = subst (λ z. Balanced (z ∷ symbols_of r) (length vs)) s h.balanced in
+    let same : symbols_of r ≡ symbols_of now = sym (ap symbols_of is) in (
+      record {
+        trees = built b r.sight vs;
+        has = record {
+          holds = p vs h.holds;
+          balanced = subst (λ z. Balanced z (length (built b r.sight vs))) same (subst (Balanced (symbols_of r)) (sym (built_left b r.sight vs balanced.0)) balanced.1);
+        };
+        on = λ o d.
+            let here = subst (λ z. Ends text (symbols_of z) (built b r.sight vs) z.place o) is d in
+            let more = subst (λ u. Ends text (symbols_of r) (built b u vs) r.place o) a.seen here in
+            subst (λ z. Ends text (z ∷ symbols_of r) vs r.place o) (sym s) (ends.makes more);
+      },
+      ap (λ z. z.place) is,
+      subst (λ z. front (symbols_of now) < front (z ∷ symbols_of r)) (sym s) (subst (λ z. front z < front (Makes b ∷ symbols_of r)) same (omega arith)),
+    )
+
+pub leave_on : {tokens : Tokens} {names : Names} {r : Reading} → IsAt tokens names r → (x : Open) (symbol : Symbol) → symbol ≡ Leave x → GoesFrom tokens names (symbol ∷ symbols_of r) r step.On r
+leave_on {tokens = tokens} {names = names} {r = r} a x symbol s start vs h = (
+  record {
+    trees = vs;
+    has = record { holds = h.holds; balanced = subst (λ z. Balanced (z ∷ symbols_of r) (length vs)) s h.balanced };
+    on = λ o d. subst (λ z. Ends (text_of tokens names start) (z ∷ symbols_of r) vs r.place o) (sym s) (ends.leaves d);
+  },
+  refl,
+  subst (λ z. front (symbols_of r) < front (z ∷ symbols_of r)) (sym s) (omega arith),
 )
 
-pub build_on : {tokens : Tokens} {names : Names} {r : Reading} → IsAt tokens names r → (start : Start) (vs : List Tree) (b : Build) (symbol : Symbol) (now : Reading) → symbol ≡ Makes b → now ≡ record r { trees = now.trees } →
-    HoldsTrees now.trees (built b r.sight vs) → Goes (text_of tokens names start) (symbol ∷ reverse r.stack.items) vs r.place step.On now
-build_on {tokens = tokens} {names = names} {r = r} a start vs b symbol now s is h = (
-  built b r.sight vs,
-  h,
-  λ o d.
-      let here = subst (λ z. Ends (text_of tokens names start) (reverse z.stack.items) (built b r.sight vs) z.place o) is d in
-      let more = subst (λ u. Ends (text_of tokens names start) (reverse r.stack.items) (built b u vs) r.place o) a.seen here in
-      subst (λ z. Ends (text_of tokens names start) (z ∷ reverse r.stack.items) vs r.place o) (sym s) (ends.makes more),
-)
+pub never_ends : (tokens : Tokens) (names : Names) (r : Reading) (symbol : Symbol) → symbol ≡ Never → GoesFrom tokens names (symbol ∷ symbols_of r) r (step.Ended (end.Unexpected r.place)) r
+never_ends tokens names r symbol e start vs h = subst (λ z. Ends (text_of tokens names start) (z ∷ symbols_of r) vs r.place (Unexpected r.place)) (sym e) ends.never
 
-pub leave_on : {tokens : Tokens} {names : Names} {r : Reading} → IsAt tokens names r → (start : Start) (vs : List Tree) (x : Open) (symbol : Symbol) → symbol ≡ Leave x → HoldsTrees r.trees vs → Goes (text_of tokens names start) (symbol ∷ reverse r.stack.items) vs r.place step.On r
-leave_on {tokens = tokens} {names = names} {r = r} a start vs x symbol s h =
-    (vs, h, λ o d. subst (λ z. Ends (text_of tokens names start) (z ∷ reverse r.stack.items) vs r.place o) (sym s) (ends.leaves d))
+-- Up to a word -------------------------------------------------------------------------------------------------------------
 
-pub never_ends : (tokens : Tokens) (names : Names) (start : Start) (s : List Symbol) (vs : List Tree) (i : ℕ) (symbol : Symbol) → symbol ≡ Never → Ends (text_of tokens names start) (symbol ∷ s) vs i (Unexpected i)
-never_ends tokens names start s vs i symbol e = subst (λ z. Ends (text_of tokens names start) (z ∷ s) vs i (Unexpected i)) (sym e) ends.never
+-- a reading has gone on from another without a word
+pub record Went (tokens : Tokens) (names : Names) (old now : Reading) : Type 0 where
+  pub at : IsAt tokens names now
+  pub place : now.place ≡ old.place
+  pub behind : (start : Start) (vs : List Tree) → HasTrees old (symbols_of old) vs → IsBehind (text_of tokens names start) (symbols_of old) vs old.place now
+
+pub went_first : (tokens : Tokens) (names : Names) (r : Reading) → IsAt tokens names r → Went tokens names r r
+went_first tokens names r a = record { at = a; place = refl; behind = λ start vs h. record { trees = vs; has = h; on = λ o d. d } }
+
+pub still_goes : {tokens : Tokens} {names : Names} {old now : Reading} → Went tokens names old now → GoesWith old (symbols_of old) → GoesWith now (symbols_of now)
+still_goes w (vs, h) = let b = w.behind start_of.Program vs h in (b.trees, b.has)
+
+-- behind a reading that is behind another
+beyond_both : {text : Text} {s : List Symbol} {vs : List Tree} {i : ℕ} {r now : Reading} → (b : IsBehind text s vs i r) → IsBehind text (symbols_of r) b.trees r.place now → IsBehind text s vs i now
+beyond_both b c = record { trees = c.trees; has = c.has; on = λ o d. b.on o (c.on o d) }
+
+at_step : (tokens : Tokens) (names : Names) (r now : Reading) {s t : Step} → s ≡ t → GoesFrom tokens names (symbols_of r) r s now → GoesFrom tokens names (symbols_of r) r t now
+at_step tokens names r now e g = subst (λ z. GoesFrom tokens names (symbols_of r) r z now) e g
+
+pub went_on : {tokens : Tokens} {names : Names} {old r : Reading} → Went tokens names old r → (now : Reading) (s : Step) → s ≡ step.On → IsAt tokens names now → GoesWith r (symbols_of r) → GoesFrom tokens names (symbols_of r) r s now → Went tokens names old now
+went_on {tokens = tokens} {names = names} {r = r} w now s e a (us, some) g = record {
+  at = a;
+  place = (at_step tokens names r now e g start_of.Program us some).1 ∙ w.place;
+  behind = λ start vs h. let b = w.behind start vs h in beyond_both b (at_step tokens names r now e g start b.trees b.has).0;
+}
+
+pub went_down : (tokens : Tokens) (names : Names) (r now : Reading) (s : Step) → s ≡ step.On → GoesWith r (symbols_of r) → GoesFrom tokens names (symbols_of r) r s now → front (symbols_of now) < front (symbols_of r)
+went_down tokens names r now s e (us, some) g = (at_step tokens names r now e g start_of.Program us some).2
+
+pub arrived : {tokens : Tokens} {names : Names} {old r : Reading} → Went tokens names old r → (now : Reading) (s : Step) → s ≡ step.Behind → GoesFrom tokens names (symbols_of r) r s now → ArrivesFrom tokens names old None now
+arrived {tokens = tokens} {names = names} {r = r} w now s e g start vs h =
+    let b = w.behind start vs h in
+    let more = at_step tokens names r now e g start b.trees b.has in
+    (beyond_both b more.0, more.1 ∙ ap (λ n. n + 1) w.place, subst (λ n. n < length tokens.items) w.place more.2)
+
+ended_by : {text : Text} {s : List Symbol} {vs : List Tree} {i : ℕ} {r : Reading} (b : IsBehind text s vs i r) (e : Ending) (now : Reading) → EndsSo text (symbols_of r) b.trees r.place e now → EndsSo text s vs i e now
+ended_by b (end.Accepted root) now (t, h, d) = (t, h, b.on (Accepted t) d)
+ended_by b (end.Unexpected j) now d = b.on (Unexpected j) d
+ended_by b (end.TooDeep j) now d = b.on (TooDeep j) d
+
+pub ended : {tokens : Tokens} {names : Names} {old r : Reading} → Went tokens names old r → (now : Reading) (s : Step) (e : Ending) → s ≡ step.Ended e → GoesFrom tokens names (symbols_of r) r s now → ArrivesFrom tokens names old (Some e) now
+ended {tokens = tokens} {names = names} {r = r} w now s e is g start vs h = let b = w.behind start vs h in ended_by b e now (at_step tokens names r now is g start b.trees b.has)
 
 -- A whole reading ----------------------------------------------------------------------------------------------------------
 
 -- what the text ends in from where the reading is, it ends in from its beginning
 pub record Underway (tokens : Tokens) (names : Names) (start : Start) (r : Reading) : Type 0 where
   pub at : IsAt tokens names r
-  pub trees : List Tree
-  pub holds : HoldsTrees r.trees trees
-  pub on : (o : Outcome) → Ends (text_of tokens names start) (reverse r.stack.items) trees r.place o → Ends (text_of tokens names start) (beginning start) [] 0 o
+  pub behind : IsBehind (text_of tokens names start) (beginning start) [] 0 r
 
-pub underway_first : (tokens : Tokens) (names : Names) (start : Start) (r : Reading) → IsAt tokens names r → HoldsTrees r.trees [] → reverse r.stack.items ≡ beginning start → r.place ≡ 0 → Underway tokens names start r
+pub underway_first : (tokens : Tokens) (names : Names) (start : Start) (r : Reading) → IsAt tokens names r → HoldsTrees r.trees [] → symbols_of r ≡ beginning start → r.place ≡ 0 → Underway tokens names start r
 underway_first tokens names start r a h s p = record {
   at = a;
-  trees = [];
-  holds = h;
-  on = λ o d. subst (λ z. Ends (text_of tokens names start) z [] 0 o) s (subst (λ z. Ends (text_of tokens names start) (reverse r.stack.items) [] z o) p d);
+  behind = record {
+    trees = [];
+    has = record { holds = h; balanced = subst (λ z. Balanced z 0) (sym s) (balanced_beginning start) };
+    on = λ o d. subst (λ z. Ends (text_of tokens names start) z [] 0 o) s (subst (λ z. Ends (text_of tokens names start) (symbols_of r) [] z o) p d);
+  };
 }
 
-pub underway_on : {tokens : Tokens} {names : Names} {start : Start} {r : Reading} → (u : Underway tokens names start r) → (now : Reading) (s : Step) → s ≡ step.On → IsAt tokens names now → Goes (text_of tokens names start) (reverse r.stack.items) u.trees r.place s now → Underway tokens names start now
-underway_on {tokens = tokens} {names = names} {start = start} {r = r} u now s e a g = record {
-  at = a;
-  trees = (went u now s e g).0;
-  holds = (went u now s e g).1;
-  on = λ o d. u.on o ((went u now s e g).2 o d);
-} where
-  went : (v : Underway tokens names start r) (z : Reading) (t : Step) → t ≡ step.On → Goes (text_of tokens names start) (reverse r.stack.items) v.trees r.place t z → Goes (text_of tokens names start) (reverse r.stack.items) v.trees r.place step.On z
-  went v z t f h = subst (λ y. Goes (text_of tokens names start) (reverse r.stack.items) v.trees r.place y z) f h
+pub underway_goes : {tokens : Tokens} {names : Names} {start : Start} {r : Reading} → Underway tokens names start r → GoesWith r (symbols_of r)
+underway_goes u = (u.behind.trees, u.behind.has)
+
+at_end : (tokens : Tokens) (names : Names) (r now : Reading) {s t : Option Ending} → s ≡ t → ArrivesFrom tokens names r s now → ArrivesFrom tokens names r t now
+at_end tokens names r now e g = subst (λ z. ArrivesFrom tokens names r z now) e g
+
+pub underway_on : {tokens : Tokens} {names : Names} {start : Start} {r : Reading} → Underway tokens names start r → (now : Reading) (o : Option Ending) → o ≡ None → IsAt tokens names now → ArrivesFrom tokens names r o now → Underway tokens names start now
+underway_on {tokens = tokens} {names = names} {start = start} {r = r} u now o e a g = record { at = a; behind = beyond_both u.behind (at_end tokens names r now e g start u.behind.trees u.behind.has).0 }
+
+-- there is a token less
+pub underway_down : {tokens : Tokens} {names : Names} {start : Start} {r : Reading} → Underway tokens names start r → (now : Reading) (o : Option Ending) → o ≡ None → ArrivesFrom tokens names r o now → (now.place ≡ r.place + 1) × (r.place < length tokens.items)
+underway_down {tokens = tokens} {names = names} {start = start} {r = r} u now o e g = let more = at_end tokens names r now e g start u.behind.trees u.behind.has in (more.1, more.2)
 
 -- the outcome that an answer shows
 abbrev pub Ended : Tokens → Names → Start → PlainAnswer → Type 0
 Ended tokens names start a = (o : Outcome) × Shows a o × Ends (text_of tokens names start) (beginning start) [] 0 o
 
-pub ended_unexpected : {tokens : Tokens} {names : Names} {start : Start} {r : Reading} → (u : Underway tokens names start r) → (now : Reading) (s : Step) (i : ℕ) → s ≡ step.Unexpected i → Goes (text_of tokens names start) (reverse r.stack.items) u.trees r.place s now → Ended tokens names start (answer.Unexpected i)
-ended_unexpected {tokens = tokens} {names = names} {start = start} {r = r} u now s i e g =
-    (Unexpected i, refl, u.on (Unexpected i) (subst (λ z. Goes (text_of tokens names start) (reverse r.stack.items) u.trees r.place z now) e g))
-
-pub ended_deep : {tokens : Tokens} {names : Names} {start : Start} {r : Reading} → (u : Underway tokens names start r) → (now : Reading) (s : Step) (i : ℕ) → s ≡ step.TooDeep i → Goes (text_of tokens names start) (reverse r.stack.items) u.trees r.place s now → Ended tokens names start (answer.TooDeep i)
-ended_deep {tokens = tokens} {names = names} {start = start} {r = r} u now s i e g =
-    (TooDeep i, refl, u.on (TooDeep i) (subst (λ z. Goes (text_of tokens names start) (reverse r.stack.items) u.trees r.place z now) e g))
-
-pub ended_accepted : {tokens : Tokens} {names : Names} {start : Start} {r : Reading} → (u : Underway tokens names start r) → (now : Reading) (s : Step) (root : ℕ) (a : PlainAnswer) → s ≡ step.Accepted root → ((t : Tree) → Holds now.trees.forest.items.items root t → Shows a (Accepted t)) →
-    Goes (text_of tokens names start) (reverse r.stack.items) u.trees r.place s now → Ended tokens names start a
-ended_accepted {tokens = tokens} {names = names} {start = start} {r = r} u now s root a e shows g =
-    let (t, h, d) = subst (λ z. Goes (text_of tokens names start) (reverse r.stack.items) u.trees r.place z now) e g in
-    (Accepted t, shows t h, u.on (Accepted t) d)
+pub underway_ended : {tokens : Tokens} {names : Names} {start : Start} {r : Reading} → Underway tokens names start r → (now : Reading) (o : Option Ending) (e : Ending) (a : PlainAnswer) → o ≡ Some e → ArrivesFrom tokens names r o now
+    → ((text : Text) (s : List Symbol) (vs : List Tree) (i : ℕ) → EndsSo text s vs i e now → (x : Outcome) × Shows a x × Ends text s vs i x) → Ended tokens names start a
+underway_ended {tokens = tokens} {names = names} {start = start} {r = r} u now o e a is g shows =
+    shows (text_of tokens names start) (beginning start) [] 0 (ended_by u.behind e now (at_end tokens names r now is g start u.behind.trees u.behind.has))

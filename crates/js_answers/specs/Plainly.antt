@@ -1,7 +1,9 @@
 -- Where a reading stands, and what a step of it comes to.
-use Rattle.std.specs.Prelude.{◌≡◌, ℕ, ◌≤◌, List, length, reverse}
+use Rattle.std.specs.Prelude.{◌≡◌, ℕ, ◌+◌, ◌<◌, ◌≤◌, List, ◌∷◌, length, reverse, Option, Some, None}
 use Rattle.js_tokens.specs.declared.token.Tokens.{Tokens}
 use Rattle.js_tree.specs.Trees.{Tree}
+use Rattle.js_answers.specs.declared.plain.End.{End}
+use Rattle.js_answers.specs.declared.plain.End.TheVariants as end
 use Rattle.js_answers.specs.declared.plain.PlainAnswer.{PlainAnswer}
 use Rattle.js_answers.specs.declared.plain.PlainAnswer.TheVariants as answer
 use Rattle.js_answers.specs.declared.plain.Reading.{Reading}
@@ -10,6 +12,7 @@ use Rattle.js_answers.specs.declared.plain.Step.TheVariants as step
 use Rattle.js_grammar.specs.declared.sight.Names.{Names}
 use Rattle.js_grammar.specs.declared.symbol.Start.{Start}
 use Rattle.js_grammar.specs.declared.symbol.Symbol.{Symbol}
+use Rattle.js_grammar.specs.inner.Ranks.{Balanced, front}
 use Rattle.js_grammar.specs.Sights.{sight}
 use Rattle.js_grammar.specs.Answers.{Text, Outcome, Accepted, Unexpected, TooDeep}
 use Rattle.js_grammar.specs.Ends.{Ends}
@@ -30,10 +33,45 @@ pub record IsAt (tokens : Tokens) (names : Names) (r : Reading) : Type 0 where
   pub within : r.place ≤ length tokens.items
   pub seen : r.sight ≡ sight names tokens r.place
 
--- With this to be read, these trees and this place, the step goes on to where the reading is then, or to an end.
+-- these are the trees of a reading, and with them what is to be read leads to one
+pub record HasTrees (r : Reading) (s : List Symbol) (vs : List Tree) : Type 0 where
+  pub holds : HoldsTrees r.trees vs
+  pub balanced : Balanced s (length vs)
+
+-- a reading that may go on with these symbols
+abbrev pub GoesWith : Reading → List Symbol → Type 0
+GoesWith r s = (vs : List Tree) × HasTrees r s vs
+
+-- the symbols of a reading, the next one first
+abbrev pub symbols_of : Reading → List Symbol
+symbols_of r = reverse r.stack.items
+
+-- what the text ends in from where a reading is, it ends in from these symbols, trees and place
+pub record IsBehind (text : Text) (s : List Symbol) (vs : List Tree) (i : ℕ) (r : Reading) : Type 0 where
+  pub trees : List Tree
+  pub has : HasTrees r (symbols_of r) trees
+  pub on : (o : Outcome) → Ends text (symbols_of r) trees r.place o → Ends text s vs i o
+
+-- from these symbols, trees and place the text ends so
+abbrev pub EndsSo : Text → List Symbol → List Tree → ℕ → End → Reading → Type 0
+EndsSo text s vs i (end.Accepted root) r = (t : Tree) × Holds r.trees.forest.items.items root t × Ends text s vs i (Accepted t)
+EndsSo text s vs i (end.Unexpected j) r = Ends text s vs i (Unexpected j)
+EndsSo text s vs i (end.TooDeep j) r = Ends text s vs i (TooDeep j)
+
+-- a step without a word leaves less in front; one with a word goes on behind it
 abbrev pub Goes : Text → List Symbol → List Tree → ℕ → Step → Reading → Type 0
-Goes text s vs i step.On r = (us : List Tree) × HoldsTrees r.trees us × ((o : Outcome) → Ends text (reverse r.stack.items) us r.place o → Ends text s vs i o)
-Goes text s vs i (step.Accepted root) r = (t : Tree) × Holds r.trees.forest.items.items root t × Ends text s vs i (Accepted t)
-Goes text s vs i (step.Unexpected j) r = Ends text s vs i (Unexpected j)
-Goes text s vs i (step.TooDeep j) r = Ends text s vs i (TooDeep j)
-Goes text s vs i step.Stuck r = Unit {0}
+Goes text s vs i step.On r = IsBehind text s vs i r × (r.place ≡ i) × (front (symbols_of r) < front s)
+Goes text s vs i step.Behind r = IsBehind text s vs i r × (r.place ≡ i + 1) × (i < length text.tokens.items)
+Goes text s vs i (step.Ended e) r = EndsSo text s vs i e r
+
+-- a step from these symbols, whatever is read and whatever trees the reading has
+abbrev pub GoesFrom : Tokens → Names → List Symbol → Reading → Step → Reading → Type 0
+GoesFrom tokens names s old st new = (start : Start) (vs : List Tree) → HasTrees old s vs → Goes (text_of tokens names start) s vs old.place st new
+
+-- a word is read, or the text ends
+abbrev pub Arrives : Text → List Symbol → List Tree → ℕ → Option End → Reading → Type 0
+Arrives text s vs i None r = IsBehind text s vs i r × (r.place ≡ i + 1) × (i < length text.tokens.items)
+Arrives text s vs i (Some e) r = EndsSo text s vs i e r
+
+abbrev pub ArrivesFrom : Tokens → Names → Reading → Option End → Reading → Type 0
+ArrivesFrom tokens names old o new = (start : Start) (vs : List Tree) → HasTrees old (symbols_of old) vs → Arrives (text_of tokens names start) (symbols_of old) vs old.place o new

@@ -92,10 +92,8 @@ impl Trees {
                 return Ok(parts);
             };
             let part = self.forest.kept(piece)?;
-            match parts.insert(0, part) {
-                Ok(()) => left -= 1,
-                Err(_) => return Err(NoMemory),
-            }
+            parts.insert(0, part)?;
+            left -= 1;
         }
         Ok(parts)
     }
@@ -130,8 +128,6 @@ fn with(parts: Vec<usize>, part: usize) -> Result<Vec<usize>, NoMemory>
     ensures { IfOk result (λ more. more.items ≡ parts.items ++ part ∷ []) }
 {
     let mut parts = parts;
-    match parts.push(part) {
-        Ok(()) => Ok(parts),
-        Err(_) => Err(NoMemory),
-    }
+    parts.push(part)?;
+    Ok(parts)
 }

@@ -1,7 +1,6 @@
 // Trees in an arena, and the trees that a reading has made so far.
-ghost use Rattle.std.specs.Prelude.{◌≡◌, List, [], ◌∷◌, ◌++◌, Some, slice_get, IfOk, IfSome, OnOk};
+ghost use Rattle.std.specs.Prelude.{◌≡◌, List, length, [], ◌∷◌, ◌++◌, Some, slice_get, IfOk, IfSome, OnOk};
 ghost use Rattle.js_tree.specs.Trees.{Tree};
-ghost use Rattle.js_answers.specs.declared.forest.Piece.TheVariants as piece_of;
 ghost use Rattle.js_answers.specs.Forest.{Holds, HoldsParts, HoldsPiece, HoldsTrees, Keeps, piece_top, top_of};
 
 use js_tree::Production;
@@ -48,10 +47,8 @@ impl Forest {
         ensures there { IfOk result (λ i. slice_get self.new.items.items i ≡ Some item) }
     {
         let number = self.items.len();
-        match self.items.push(item) {
-            Ok(()) => Ok(number),
-            Err(_) => Err(NoMemory),
-        }
+        self.items.push(item)?;
+        Ok(number)
     }
 
     // The list of these parts, as trees of the arena.
@@ -109,10 +106,8 @@ impl Trees {
         ensures pieces { OnOk result (self.new.pieces.items ≡ self.old.pieces.items ++ piece ∷ []) }
         ensures forest { self.new.forest ≡ self.old.forest }
     {
-        match self.pieces.push(piece) {
-            Ok(()) => Ok(()),
-            Err(_) => Err(NoMemory),
-        }
+        self.pieces.push(piece)?;
+        Ok(())
     }
 
     // The production of the last tree, where it is a node.
@@ -126,22 +121,13 @@ impl Trees {
     }
 
     // The number of the tree, where there is one alone.
-    pub(crate) fn only(&self) -> Option<usize>
-        ensures { IfSome result (λ root. (vs : List Tree) → HoldsTrees self.now vs → (t : Tree) × (vs ≡ t ∷ []) × Holds self.now.forest.items.items root t) }
+    pub(crate) fn only(&mut self) -> Result<usize, NoMemory>
+        requires { (vs : List Tree) × HoldsTrees self.old vs × (length vs ≡ 1) }
+        ensures { IfOk result (λ root. (vs : List Tree) → HoldsTrees self.old vs → length vs ≡ 1 → (t : Tree) × (vs ≡ t ∷ []) × Holds self.new.forest.items.items root t) }
     {
-        match self.pieces.as_slice().split_last() {
-            Some((piece, before)) => { if before.is_empty() { one(piece) } else { None } }
-            None => None,
-        }
-    }
-}
-
-// The number of a tree that is no list.
-fn one(piece: &Piece) -> Option<usize>
-    ensures { IfSome result (λ number. piece.now ≡ piece_of.Tree number) }
-{
-    match piece {
-        Piece::Tree(number) => Some(*number),
-        Piece::List(_) => None,
+        let Some(piece) = self.pieces.pop() else {
+            unreachable!();
+        };
+        self.forest.kept(piece)
     }
 }

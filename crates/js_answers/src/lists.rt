@@ -12,10 +12,8 @@ pub(crate) fn symbols<const N: usize>(
 ) -> Result<Vec<Symbol>, NoMemory>
     ensures { IfOk result (λ v. v.items ≡ list.entry) }
 {
-    match Vec::from_array(alloc, list) {
-        Ok(made) => Ok(made),
-        Err(_) => Err(NoMemory),
-    }
+    let made = Vec::from_array(alloc, list)?;
+    Ok(made)
 }
 
 // Puts the symbols on the stack, the first one on top.
@@ -24,9 +22,7 @@ pub(crate) fn push_all(stack: &mut Vec<Symbol>, list: Vec<Symbol>) -> Result<(),
 {
     let mut left = list;
     'symbols: while let Some(symbol) = left.pop() {
-        if stack.push(symbol).is_err() {
-            return Err(NoMemory);
-        }
+        stack.push(symbol)?;
     }
     Ok(())
 }

@@ -1,15 +1,16 @@
 // The answer of a text, one step after the other, as the definitions give it.
-ghost use Rattle.std.specs.Prelude.{◌≡◌, ◌≢◌, ◌+◌, ◌<◌, ◌≤◌, ◌++◌, List, [], ◌∷◌, length, reverse, IfOk, OnOk, IfSome, MatchBool};
+ghost use Rattle.std.specs.Prelude.{◌≡◌, ◌≢◌, ℕ, ◌+◌, ◌<◌, ◌≤◌, ◌++◌, List, [], ◌∷◌, length, reverse, IfOk, OnOk, IfSome, MatchBool};
 ghost use Rattle.js_tree.specs.Trees.{Tree};
 ghost use Rattle.js_grammar.specs.declared.sight.Seen.TheVariants as sees;
 ghost use Rattle.js_grammar.specs.declared.symbol.Start.{Start};
-ghost use Rattle.js_grammar.specs.declared.symbol.Symbol.TheVariants as symbols_of;
-ghost use Rattle.js_grammar.specs.Answers.{Outcome, Accepted, Answer};
+ghost use Rattle.js_grammar.specs.declared.symbol.Symbol.{Symbol};
+ghost use Rattle.js_grammar.specs.declared.symbol.Symbol.TheVariants as symbol;
+ghost use Rattle.js_grammar.specs.Answers.{Text, Outcome, Answer};
 ghost use Rattle.js_grammar.specs.Derivations as derivations;
 ghost use Rattle.js_grammar.specs.Ends.{Ends};
 ghost use Rattle.js_answers.specs.Forest.{Holds, HoldsTrees};
 ghost use Rattle.js_grammar.specs.Grammar as grammar;
-ghost use Rattle.js_answers.specs.Plainly.{text_of, Shows, IsAt, Goes};
+ghost use Rattle.js_answers.specs.Plainly.{text_of, Shows, IsAt, GoesWith, GoesFrom, ArrivesFrom, EndsSo, symbols_of};
 ghost use Rattle.js_grammar.specs.Parts as parts;
 ghost use Rattle.js_grammar.specs.Sights as sights;
 
@@ -49,52 +50,52 @@ pub(crate) struct Reading {
     pub(crate) sight: Sight,
 }
 
-// What a step comes to.
+// How a text ends: with the tree of a number, or at the token of a number.
 #[derive(Clone, Copy, Debug, PartialEq, Eq)]
-pub(crate) enum Step {
-    On,
+pub(crate) enum End {
     Accepted(usize),
     Unexpected(usize),
     TooDeep(usize),
-    // From here the text ends in no way.
-    Stuck,
 }
 
-/// The answer of a text, found in at most so many steps.
+// What a step comes to.
+#[derive(Clone, Copy, Debug, PartialEq, Eq)]
+pub(crate) enum Step {
+    // No word was read.
+    On,
+    // A word was read.
+    Behind,
+    Ended(End),
+}
+
+/// The answer of a text.
 pub fn plain_answer(
     alloc: Global,
     tokens: &Tokens,
     names: Names,
     start: Start,
-    steps: usize,
-) -> Result<Option<PlainAnswer>, NoMemory>
-    ensures { IfOk result (λ found. IfSome found (λ a. (o : Outcome) × Shows a o × Answer (text_of tokens.now names start) o)) }
+) -> Result<PlainAnswer, NoMemory>
+    ensures { IfOk result (λ a. (o : Outcome) × Shows a o × Answer (text_of tokens.now names start) o) }
 {
     an_end_is_the_answer();
-    plain_end(alloc, tokens, names, start, steps)
+    plain_end(alloc, tokens, names, start)
 }
 
-// What the text ends in, step by step.
+// What the text ends in, word by word.
 fn plain_end(
     alloc: Global,
     tokens: &Tokens,
     names: Names,
     start: Start,
-    steps: usize,
-) -> Result<Option<PlainAnswer>, NoMemory>
-    ensures { IfOk result (λ found. IfSome found (λ a. (o : Outcome) × Shows a o × Ends (text_of tokens.now names start) (derivations.beginning start) [] 0 o)) }
+) -> Result<PlainAnswer, NoMemory>
+    ensures { IfOk result (λ a. (o : Outcome) × Shows a o × Ends (text_of tokens.now names start) (derivations.beginning start) [] 0 o) }
 {
     let mut reading = Reading::new(alloc, tokens, names, start)?;
-    for _step in 0..steps {
-        match reading.step(alloc, tokens, names)? {
-            Step::On => {}
-            Step::Accepted(root) => return Ok(Some(reading.accepted(root))),
-            Step::Unexpected(place) => return Ok(Some(PlainAnswer::Unexpected(place))),
-            Step::TooDeep(place) => return Ok(Some(PlainAnswer::TooDeep(place))),
-            Step::Stuck => return Ok(None),
+    'words: loop {
+        if let Some(end) = reading.run(alloc, tokens, names)? {
+            return Ok(reading.shown(end));
         }
     }
-    Ok(None)
 }
 
 // What is to be read at first.
@@ -164,8 +165,9 @@ impl Reading {
         })
     }
 
-    fn accepted(self, root: usize) -> PlainAnswer
-        ensures { (t : Tree) → Holds self.trees.forest.items.items root t → Shows result (Accepted t) }
+    // The answer of a text that ends so.
+    fn shown(self, end: End) -> PlainAnswer
+        ensures { (text : Text) (s : List Symbol) (vs : List Tree) (i : ℕ) → EndsSo text s vs i end self → (o : Outcome) × Shows result o × Ends text s vs i o }
     {
         let Reading {
             stack: _,
@@ -173,20 +175,41 @@ impl Reading {
             place: _,
             sight: _,
         } = self;
-        PlainAnswer::Accepted {
-            forest: trees.forest,
-            root,
+        match end {
+            End::Accepted(root) => PlainAnswer::Accepted {
+                forest: trees.forest,
+                root,
+            },
+            End::Unexpected(place) => PlainAnswer::Unexpected(place),
+            End::TooDeep(place) => PlainAnswer::TooDeep(place),
+        }
+    }
+
+    // Reads up to the next word, and that word; or how the text ends before.
+    fn run(&mut self, alloc: Global, tokens: &Tokens, names: Names) -> Result<Option<End>, NoMemory>
+        requires at { IsAt tokens.now names self.old }
+        requires goes { GoesWith self.old (symbols_of self.old) }
+        ensures at { OnOk result (IsAt tokens.now names self.new) }
+        ensures arrives { IfOk result (λ end. ArrivesFrom tokens.now names self.old end self.new) }
+    {
+        'steps: loop {
+            match self.step(alloc, tokens, names)? {
+                Step::On => {}
+                Step::Behind => return Ok(None),
+                Step::Ended(end) => return Ok(Some(end)),
+            }
         }
     }
 
     // Reads the next symbol.
     fn step(&mut self, alloc: Global, tokens: &Tokens, names: Names) -> Result<Step, NoMemory>
-        requires { IsAt tokens.now names self.old }
+        requires at { IsAt tokens.now names self.old }
+        requires goes { GoesWith self.old (symbols_of self.old) }
         ensures at { OnOk result (IsAt tokens.now names self.new) }
-        ensures goes { IfOk result (λ step. (start : Start) (vs : List Tree) → HoldsTrees self.old.trees vs → Goes (text_of tokens.now names start) (reverse self.old.stack.items) vs self.old.place step self.new) }
+        ensures goes { IfOk result (λ step. GoesFrom tokens.now names (symbols_of self.old) self.old step self.new) }
     {
         let Some(symbol) = self.stack.pop() else {
-            return Ok(Step::Stuck);
+            unreachable!();
         };
         self.read(alloc, tokens, names, symbol)
     }
@@ -199,16 +222,17 @@ impl Reading {
         names: Names,
         symbol: Symbol,
     ) -> Result<Step, NoMemory>
-        requires { IsAt tokens.now names self.old }
+        requires at { IsAt tokens.now names self.old }
+        requires goes { GoesWith self.old (symbol ∷ symbols_of self.old) }
         ensures at { OnOk result (IsAt tokens.now names self.new) }
-        ensures goes { IfOk result (λ step. (start : Start) (vs : List Tree) → HoldsTrees self.old.trees vs → Goes (text_of tokens.now names start) (symbol ∷ reverse self.old.stack.items) vs self.old.place step self.new) }
+        ensures goes { IfOk result (λ step. GoesFrom tokens.now names (symbol ∷ symbols_of self.old) self.old step self.new) }
     {
         match symbol {
             Symbol::Word(word) => self.word(alloc, tokens, names, word),
-            Symbol::End => Ok(self.end(tokens, names)),
+            Symbol::End => self.end(tokens, names),
             Symbol::Semicolon => self.semicolon(alloc, tokens, names),
             Symbol::FreeSemicolon => self.free_semicolon(alloc, tokens, names),
-            Symbol::Never => Ok(Step::Unexpected(self.place)),
+            Symbol::Never => Ok(Step::Ended(End::Unexpected(self.place))),
             Symbol::Part(part) => {
                 self.part(alloc, part)?;
                 Ok(Step::On)
@@ -250,35 +274,35 @@ impl Reading {
     ) -> Result<Step, NoMemory>
         requires { IsAt tokens.now names self.old }
         ensures at { OnOk result (IsAt tokens.now names self.new) }
-        ensures goes { IfOk result (λ step. (start : Start) (vs : List Tree) → HoldsTrees self.old.trees vs → Goes (text_of tokens.now names start) (symbols_of.Word word ∷ reverse self.old.stack.items) vs self.old.place step self.new) }
+        ensures goes { IfOk result (λ step. GoesFrom tokens.now names (symbol.Word word ∷ symbols_of self.old) self.old step self.new) }
     {
         if !is_seen(self.sight.seen, word) {
-            return Ok(Step::Unexpected(self.place));
+            return Ok(Step::Ended(End::Unexpected(self.place)));
         }
         if !self.may_stand() {
-            return Ok(Step::TooDeep(self.place));
+            return Ok(Step::Ended(End::TooDeep(self.place)));
         }
         self.advance(alloc, tokens, names)?;
-        Ok(Step::On)
+        Ok(Step::Behind)
     }
 
     // A semicolon, also one that is inserted.
     fn semicolon(&mut self, alloc: Global, tokens: &Tokens, names: Names) -> Result<Step, NoMemory>
         requires { IsAt tokens.now names self.old }
         ensures at { OnOk result (IsAt tokens.now names self.new) }
-        ensures goes { IfOk result (λ step. (start : Start) (vs : List Tree) → HoldsTrees self.old.trees vs → Goes (text_of tokens.now names start) (symbols_of.Semicolon ∷ reverse self.old.stack.items) vs self.old.place step self.new) }
+        ensures goes { IfOk result (λ step. GoesFrom tokens.now names (symbol.Semicolon ∷ symbols_of self.old) self.old step self.new) }
     {
         if is_seen(self.sight.seen, Word::Semicolon) {
             if !self.may_stand() {
-                return Ok(Step::TooDeep(self.place));
+                return Ok(Step::Ended(End::TooDeep(self.place)));
             }
             self.advance(alloc, tokens, names)?;
-            return Ok(Step::On);
+            return Ok(Step::Behind);
         }
         if may_insert(&self.sight) {
             Ok(Step::On)
         } else {
-            Ok(Step::Unexpected(self.place))
+            Ok(Step::Ended(End::Unexpected(self.place)))
         }
     }
 
@@ -291,33 +315,30 @@ impl Reading {
     ) -> Result<Step, NoMemory>
         requires { IsAt tokens.now names self.old }
         ensures at { OnOk result (IsAt tokens.now names self.new) }
-        ensures goes { IfOk result (λ step. (start : Start) (vs : List Tree) → HoldsTrees self.old.trees vs → Goes (text_of tokens.now names start) (symbols_of.FreeSemicolon ∷ reverse self.old.stack.items) vs self.old.place step self.new) }
+        ensures goes { IfOk result (λ step. GoesFrom tokens.now names (symbol.FreeSemicolon ∷ symbols_of self.old) self.old step self.new) }
     {
         if !is_seen(self.sight.seen, Word::Semicolon) {
             return Ok(Step::On);
         }
         if !self.may_stand() {
-            return Ok(Step::TooDeep(self.place));
+            return Ok(Step::Ended(End::TooDeep(self.place)));
         }
         self.advance(alloc, tokens, names)?;
-        Ok(Step::On)
+        Ok(Step::Behind)
     }
 
     // The text's end: all is read, and one tree is there.
-    fn end(&self, tokens: &Tokens, names: Names) -> Step
-        requires { IsAt tokens.now names self.now }
-        ensures { (start : Start) (vs : List Tree) → HoldsTrees self.now.trees vs → Goes (text_of tokens.now names start) (symbols_of.End ∷ reverse self.now.stack.items) vs self.now.place result self.now }
+    fn end(&mut self, tokens: &Tokens, names: Names) -> Result<Step, NoMemory>
+        requires at { IsAt tokens.now names self.old }
+        requires goes { GoesWith self.old (symbol.End ∷ symbols_of self.old) }
+        ensures at { OnOk result (IsAt tokens.now names self.new) }
+        ensures goes { IfOk result (λ step. GoesFrom tokens.now names (symbol.End ∷ symbols_of self.old) self.old step self.new) }
     {
         if !is_end(self.sight.seen) {
-            return Step::Unexpected(self.place);
+            return Ok(Step::Ended(End::Unexpected(self.place)));
         }
-        if !self.stack.as_slice().is_empty() {
-            return Step::Stuck;
-        }
-        match self.trees.only() {
-            Some(root) => Step::Accepted(root),
-            None => Step::Stuck,
-        }
+        let root = self.trees.only()?;
+        Ok(Step::Ended(End::Accepted(root)))
     }
 
     // Puts what is to be read in the place of the part on the stack.

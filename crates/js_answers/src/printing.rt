@@ -88,8 +88,6 @@ impl Forest {
 }
 
 fn push(tasks: &mut Vec<Task>, task: Task) -> Result<(), NoMemory> {
-    match tasks.push(task) {
-        Ok(()) => Ok(()),
-        Err(_) => Err(NoMemory),
-    }
+    tasks.push(task)?;
+    Ok(())
 }

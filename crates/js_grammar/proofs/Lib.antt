@@ -9,3 +9,4 @@ pub mod PrecedenceParting
 pub mod PrecedenceLaws
 pub mod Sound
 pub mod Total
+pub mod Sorting

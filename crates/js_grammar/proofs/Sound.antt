@@ -1,7 +1,8 @@
 -- Each production takes and leaves as many trees as its part says, and doesn't begin with that part again before a word is read.
-use Rattle.std.proofs.Common.{◌≡◌, ℕ, ◌+◌, ◌-◌, Bool, true, false, List, [], ◌∷◌, ◌||◌, ◌&&◌, refl}
+use Rattle.std.proofs.Common.{◌≡◌, ℕ, ◌+◌, ◌-◌, ◌<◌, Bool, true, false, List, [], ◌∷◌, ◌||◌, ◌&&◌, refl}
 use Rattle.std.specs.Prelude.{ℤ, Option, Some, None, nat_le, nat_lt, nat_eq, not, codes, if◌then◌else◌}
 use Rattle.std.specs.Str.{bytes_eq}
+use Rattle.std.proofs.lemmas.Bool.{ltb-true, and_parts}
 use Rattle.js_tokens.specs.declared.word.Word.{Word}
 use Rattle.js_tokens.specs.declared.word.Word.TheVariants as w
 use Rattle.js_tree.specs.declared.production.Production.{Production}
@@ -14,6 +15,7 @@ use Rattle.js_grammar.specs.declared.sight.Seen.{Seen}
 use Rattle.js_grammar.specs.declared.sight.Seen.TheVariants as seen
 use Rattle.js_grammar.specs.declared.sight.Sight.{Sight}
 use Rattle.js_grammar.specs.declared.symbol.Form.{Form}
+use Rattle.js_grammar.specs.declared.symbol.Form.TheVariants.{Full, NoIn}
 use Rattle.js_grammar.specs.declared.symbol.Build.{Build}
 use Rattle.js_grammar.specs.declared.symbol.Build.TheVariants as build
 use Rattle.js_grammar.specs.declared.symbol.Nonterminal.{Nonterminal}
@@ -22,64 +24,10 @@ use Rattle.js_grammar.specs.declared.symbol.Symbol.{Symbol}
 use Rattle.js_grammar.specs.declared.symbol.Symbol.TheVariants.{Word as T, End, Semicolon, FreeSemicolon, Never, Part, Build as Makes, Leave}
 use Rattle.js_grammar.specs.Sights.{may_follow}
 use Rattle.js_grammar.specs.Parts.{in_function, continues, breaks, continues_to, breaks_to}
-use Rattle.js_grammar.specs.Grammar.{produce, begins, starts, is_key, is_property, is_target, is_bare, behind_key, commas, assigned_by, assignment_operator, choice, operators_by, binary_operator, unary_by, target_by, update_operator, unary_operator, operated, postfix_by, left_hand, member_tail, tail, key, constructor, given, first_argument, more_arguments, primary, elements, more_elements, entries, more_entries, entry, getter, setter, own_name, name, parameters, more_parameters, sources, named_statement, expression_statement, return_statement, statement, more_declarators, initialiser, otherwise, for_expression, for_head, for_var, for_target, for_test, for_update, unlabelled, jump, returned_by, cases, handlers, finally, add, text, pair}
+use Rattle.js_grammar.specs.Grammar.{produce, begins, starts, is_key, is_property, is_target, is_bare, behind_key, commas, assigned_by, assignment_operator, choice, operators_by, binary_operator, unary_by, target_by, update_operator, unary_operator, operated, postfix_by, left_hand, member_tail, tail, key, constructor, given, first_argument, more_arguments, primary, elements, more_elements, entries, more_entries, entry, getter, setter, own_name, name, parameters, more_parameters, sources, named_statement, expression_statement, return_statement, statement, more_declarators, initialiser, otherwise, for_expression, for_head, for_var, for_target, for_test, for_update, unlabelled, labelled, jump, returned_by, cases, handlers, finally, add, text, pair}
+use Rattle.js_grammar.specs.inner.Ranks.{taken, left, needs, stops, reads_a_word, rank, has_word, front}
+use Rattle.js_grammar.specs.inner.Sorts.{takes, gives, leads}
 use Rattle.js_grammar.proofs.Agree.{sees}
-
--- how many trees a making takes
-abbrev pub taken : Build → ℕ
-taken (build.Node _ _ count) = count
-taken (build.Root _) = 1
-taken (build.Group count) = count
-taken build.Add = 2
-taken build.Missing = 0
-taken (build.Text _) = 0
-
--- how many there are behind it
-abbrev pub left : Build → ℕ → ℕ
-left (build.Node _ _ count) c = c - count + 1
-left (build.Root _) c = c
-left (build.Group count) c = c - count + 1
-left build.Add c = c - 1
-left build.Missing c = c + 1
-left (build.Text _) c = c + 1
-
--- how many trees a part takes; it leaves one
-abbrev pub needs : Nonterminal → ℕ
-needs (n.Commas _ _) = 1
-needs (n.Assigned _ _) = 1
-needs (n.Choice _ _) = 1
-needs (n.Operators _ _ _) = 1
-needs (n.Postfix _) = 1
-needs (n.Prefixed _ _) = 1
-needs (n.Operated _ _) = 1
-needs (n.Tail _) = 1
-needs (n.MemberTail _) = 1
-needs (n.Key _) = 1
-needs (n.Given _) = 1
-needs n.FirstArgument = 1
-needs n.MoreArguments = 1
-needs n.Elements = 1
-needs n.MoreElements = 1
-needs n.Entries = 1
-needs n.MoreEntries = 1
-needs n.Parameters = 1
-needs n.MoreParameters = 1
-needs n.Sources = 1
-needs n.Statements = 1
-needs (n.Declarator _) = 1
-needs (n.MoreDeclarators _) = 1
-needs (n.Else _) = 2
-needs (n.ForObject _) = 1
-needs (n.ForStart _) = 1
-needs (n.Cases _) = 1
-needs (n.Handlers _) = 1
-needs (n.Finally _) = 2
-needs _ = 0
-
--- nothing goes on behind this part
-abbrev pub stops : Nonterminal → Bool
-stops n.Accessed = true
-stops _ = false
 
 -- from so many trees these symbols lead to so many, or nothing goes on
 abbrev pub balances : List Symbol → ℕ → ℕ → Bool
@@ -93,99 +41,9 @@ balances (Semicolon ∷ s) c d = balances s c d
 balances (FreeSemicolon ∷ s) c d = balances s c d
 balances (Leave o ∷ s) c d = balances s c d
 
--- the part reads a word, or the text ends in it
-abbrev pub reads_a_word : Nonterminal → Bool
-reads_a_word (n.Assigned _ _) = false
-reads_a_word (n.BreakTo _) = false
-reads_a_word (n.Choice _ _) = false
-reads_a_word (n.Commas _ _) = false
-reads_a_word (n.ContinueTo _) = false
-reads_a_word (n.Else _) = false
-reads_a_word (n.Finally _) = false
-reads_a_word (n.Given _) = false
-reads_a_word (n.Initialiser _) = false
-reads_a_word (n.MemberTail _) = false
-reads_a_word (n.MoreDeclarators _) = false
-reads_a_word (n.Operated _ _) = false
-reads_a_word (n.Operators _ _ _) = false
-reads_a_word n.OwnName = false
-reads_a_word (n.Postfix _) = false
-reads_a_word (n.Prefixed _ _) = false
-reads_a_word (n.Returned _) = false
-reads_a_word n.Sources = false
-reads_a_word n.Statements = false
-reads_a_word (n.Tail _) = false
-reads_a_word _ = true
-
--- the rank of a part is above that of what is to be read in its place before a word is read
-abbrev pub rank : Nonterminal → ℕ
-rank n.Sources = 11
-rank n.Statements = 11
-rank n.Statement = 10
-rank (n.ForHead _) = 10
-rank n.ForTest = 10
-rank n.ForUpdate = 10
-rank (n.Returned _) = 10
-rank (n.Thrown _) = 10
-rank (n.Expression _) = 9
-rank n.FirstArgument = 9
-rank n.Elements = 9
-rank (n.Assignment _) = 8
-rank (n.Conditional _) = 7
-rank (n.Operation _ _) = 6
-rank (n.ForVar _ _) = 6
-rank (n.Updated _ _) = 6
-rank (n.Operand _ _) = 6
-rank (n.TargetOperand _ _) = 6
-rank n.Unary = 5
-rank n.Target = 5
-rank n.Callee = 5
-rank (n.Declarations _) = 5
-rank n.LeftHand = 4
-rank n.Constructor = 4
-rank n.ForTarget = 4
-rank (n.ContinueTo _) = 4
-rank (n.BreakTo _) = 4
-rank (n.Tail _) = 3
-rank (n.Declarator _) = 3
-rank (n.Given _) = 3
-rank n.Primary = 3
-rank n.Entries = 3
-rank n.Getter = 3
-rank n.Setter = 3
-rank n.Parameters = 3
-rank (n.Else _) = 3
-rank (n.Handlers _) = 3
-rank (n.Finally _) = 3
-rank _ = 2
-
--- a word is read among these symbols, or the text ends in them
-abbrev pub has_word : List Symbol → Bool
-has_word [] = false
-has_word (T v ∷ s) = true
-has_word (End ∷ s) = true
-has_word (Never ∷ s) = true
-has_word (Part x ∷ s) = reads_a_word x || has_word s
-has_word (Makes b ∷ s) = has_word s
-has_word (Leave o ∷ s) = has_word s
-has_word (Semicolon ∷ s) = has_word s
-has_word (FreeSemicolon ∷ s) = has_word s
-
--- the ranks up to there
-abbrev pub front : List Symbol → ℕ
-front [] = 0
-front (T v ∷ s) = 1
-front (End ∷ s) = 1
-front (Never ∷ s) = 1
-front (Part x ∷ s) = if reads_a_word x then rank x else rank x + front s
-front (Makes b ∷ s) = 1 + front s
-front (Leave o ∷ s) = 1 + front s
-front (Semicolon ∷ s) = 1 + front s
-front (FreeSemicolon ∷ s) = 1 + front s
-
 -- what may stand in the place of a part
 abbrev pub is_sound : Nonterminal → List Symbol → Bool
-is_sound x s = nat_lt (front s) (rank x) && ((not (reads_a_word x) || has_word s) && balances s (needs x) 1)
+is_sound x s = nat_lt (front s) (rank x) && ((not (reads_a_word x) || has_word s) && (balances s (needs x) 1 && leads s (Some (takes x)) (gives x)))
 
 sound_if : (x : Nonterminal) (b : Bool) (here there : List Symbol) → is_sound x here ≡ true → is_sound x there ≡ true → is_sound x (if b then here else there) ≡ true
 sound_if x true here there e f = e
@@ -285,17 +143,33 @@ sound_finally : (from : ℕ) (v : Seen) → is_sound (n.Finally from) (finally f
 sound_finally from (seen.Word w.Finally) = refl
 sound_finally from _ = refl
 
-sound_assigned_by : (h : Form) (from : ℕ) (v : Seen) (o : Option Production) → is_sound (n.Assigned h from) (assigned_by h from v o) ≡ true
-sound_assigned_by h from v None = refl
-sound_assigned_by h from (seen.Word k) (Some q) = refl
-sound_assigned_by h from seen.Forbidden (Some q) = refl
-sound_assigned_by h from seen.End (Some q) = refl
+sound_assigned_by : (h : Form) (from : ℕ) (v : Seen) → is_sound (n.Assigned h from) (assigned_by h from v (assignment_operator v)) ≡ true
+sound_assigned_by h from (seen.Word w.Assign) = refl
+sound_assigned_by h from _ = refl
 
-sound_operators : (least : ℕ) (h : Form) (from : ℕ) (v : Seen) (o : Option (ℕ × Production)) → is_sound (n.Operators least h from) (operators_by least h from v o) ≡ true
-sound_operators least h from v None = refl
-sound_operators least h from (seen.Word k) (Some (level, q)) = sound_if (n.Operators least h from) (nat_le least level) _ _ refl refl
-sound_operators least h from seen.Forbidden (Some (level, q)) = sound_if (n.Operators least h from) (nat_le least level) _ _ refl refl
-sound_operators least h from seen.End (Some (level, q)) = sound_if (n.Operators least h from) (nat_le least level) _ _ refl refl
+abbrev is_two : Option (ℕ × Production) → Bool
+is_two (Some (level, p.And)) = true
+is_two (Some (level, p.Or)) = true
+is_two (Some (level, p.Binary o)) = true
+is_two (Some _) = false
+is_two None = true
+
+two_operands : (h : Form) (v : Seen) → is_two (binary_operator h v) ≡ true
+two_operands Full (seen.Word w.In) = refl
+two_operands NoIn (seen.Word w.In) = refl
+two_operands h _ = refl
+
+sound_operator : (least level : ℕ) (h : Form) (from : ℕ) (k : Word) (q : Production) → is_two (Some (level, q)) ≡ true → is_sound (n.Operators least h from) (operators_by least h from (seen.Word k) (Some (level, q))) ≡ true
+sound_operator least level h from k p.And e = sound_if (n.Operators least h from) (nat_le least level) _ _ refl refl
+sound_operator least level h from k p.Or e = sound_if (n.Operators least h from) (nat_le least level) _ _ refl refl
+sound_operator least level h from k (p.Binary o) e = sound_if (n.Operators least h from) (nat_le least level) _ _ refl refl
+sound_operator least level h from k q e = cc
+
+sound_operators : (least : ℕ) (h : Form) (from : ℕ) (v : Seen) (o : Option (ℕ × Production)) → is_two o ≡ true → is_sound (n.Operators least h from) (operators_by least h from v o) ≡ true
+sound_operators least h from v None e = refl
+sound_operators least h from (seen.Word k) (Some (level, q)) e = sound_operator least level h from k q e
+sound_operators least h from seen.Forbidden (Some (level, q)) e = sound_if (n.Operators least h from) (nat_le least level) _ _ refl refl
+sound_operators least h from seen.End (Some (level, q)) e = sound_if (n.Operators least h from) (nat_le least level) _ _ refl refl
 
 sound_unary : (v : Seen) (from : ℕ) (o : Option UpdateOperator) (q : Option UnaryOperator) → is_sound n.Unary (unary_by v from o q) ≡ true
 sound_unary (seen.Word k) from (Some o) q = refl
@@ -416,13 +290,25 @@ sound_for_var : (from at : ℕ) (v : Seen) (t : List ℕ) (z : ℤ) (l c g : Boo
 sound_for_var from at (seen.Word w.Name) t z l c g b f = sound_if (n.ForVar from at) g _ _ refl refl
 sound_for_var from at _ t z l c g b f = refl
 
-sound_unlabelled : (there : Bool) (q : Production) (from : ℕ) → is_sound (n.BreakTo from) (unlabelled there q from) ≡ true
-sound_unlabelled there q from = sound_if (n.BreakTo from) there _ _ refl refl
+abbrev is_jump : Production → Bool
+is_jump p.Continue = true
+is_jump p.Break = true
+is_jump _ = false
 
-sound_jump : (there labelled_there : Bool) (q : Production) (from : ℕ) (v : Seen) (t : List ℕ) (z : ℤ) (l c g : Bool) (b f : ℕ) → is_sound (n.BreakTo from) (jump there labelled_there q from (sees v t z l c g b f) v) ≡ true
-sound_jump there labelled_there q from (seen.Word w.Name) t z true c g b f = sound_unlabelled there q from
-sound_jump there labelled_there q from (seen.Word w.Name) t z false c g b f = sound_if (n.BreakTo from) labelled_there _ _ refl refl
-sound_jump there labelled_there q from _ t z l c g b f = sound_unlabelled there q from
+sound_unlabelled : (there : Bool) (q : Production) (from : ℕ) → is_jump q ≡ true → is_sound (n.BreakTo from) (unlabelled there q from) ≡ true
+sound_unlabelled there p.Continue from e = sound_if (n.BreakTo from) there _ _ refl refl
+sound_unlabelled there p.Break from e = sound_if (n.BreakTo from) there _ _ refl refl
+sound_unlabelled there q from e = cc
+
+sound_labelled : (there : Bool) (q : Production) (from : ℕ) (u : Sight) → is_jump q ≡ true → is_sound (n.BreakTo from) (labelled there q from u) ≡ true
+sound_labelled there p.Continue from u e = sound_if (n.BreakTo from) there _ _ refl refl
+sound_labelled there p.Break from u e = sound_if (n.BreakTo from) there _ _ refl refl
+sound_labelled there q from u e = cc
+
+sound_jump : (there labelled_there : Bool) (q : Production) (from : ℕ) (v : Seen) (t : List ℕ) (z : ℤ) (l c g : Bool) (b f : ℕ) → is_jump q ≡ true → is_sound (n.BreakTo from) (jump there labelled_there q from (sees v t z l c g b f) v) ≡ true
+sound_jump there labelled_there q from (seen.Word w.Name) t z true c g b f e = sound_unlabelled there q from e
+sound_jump there labelled_there q from (seen.Word w.Name) t z false c g b f e = sound_labelled labelled_there q from (sees (seen.Word w.Name) t z false c g b f) e
+sound_jump there labelled_there q from _ t z l c g b f e = sound_unlabelled there q from e
 
 sound_returned : (from : ℕ) (v : Seen) (t : List ℕ) (z : ℤ) (l c g : Bool) (b f : ℕ) → is_sound (n.Returned from) (returned_by from (sees v t z l c g b f) v) ≡ true
 sound_returned from (seen.Word w.Semicolon) t z l c g b f = refl
@@ -438,11 +324,11 @@ sound_at : (x : Nonterminal) (s : List Symbol) (v : Seen) (t : List ℕ) (z : �
 sound_at (n.Expression i) s v t z l c g b f vs = refl
 sound_at (n.Commas i from) s v t z l c g b f vs = sound_commas i from v
 sound_at (n.Assignment i) s v t z l c g b f vs = refl
-sound_at (n.Assigned i from) s v t z l c g b f vs = sound_if (n.Assigned i from) (is_target vs) _ _ (sound_assigned_by i from v (assignment_operator v)) refl
+sound_at (n.Assigned i from) s v t z l c g b f vs = sound_if (n.Assigned i from) (is_target vs) _ _ (sound_assigned_by i from v) refl
 sound_at (n.Conditional i) s v t z l c g b f vs = refl
 sound_at (n.Choice i from) s v t z l c g b f vs = sound_choice i from v
 sound_at (n.Operation least i) s v t z l c g b f vs = refl
-sound_at (n.Operators least i from) s v t z l c g b f vs = sound_operators least i from v (binary_operator i v)
+sound_at (n.Operators least i from) s v t z l c g b f vs = sound_operators least i from v (binary_operator i v) (two_operands i v)
 sound_at n.Unary s v t z l c g b f vs = sound_unary v f (update_operator v) (unary_operator v)
 sound_at (n.Postfix from) s v t z l c g b f vs = sound_postfix from v t z l c g b f (update_operator v) vs
 sound_at (n.Updated o from) s v t z l c g b f vs = refl
@@ -495,13 +381,27 @@ sound_at (n.ForObject from) s v t z l c g b f vs = refl
 sound_at (n.ForStart from) s v t z l c g b f vs = refl
 sound_at n.ForTest s v t z l c g b f vs = sound_for_test v
 sound_at n.ForUpdate s v t z l c g b f vs = sound_for_update v
-sound_at (n.ContinueTo from) s v t z l c g b f vs = sound_jump (continues s) (continues_to t s) p.Continue from v t z l c g b f
-sound_at (n.BreakTo from) s v t z l c g b f vs = sound_jump (breaks s) (breaks_to t s) p.Break from v t z l c g b f
+sound_at (n.ContinueTo from) s v t z l c g b f vs = sound_jump (continues s) (continues_to t s) p.Continue from v t z l c g b f refl
+sound_at (n.BreakTo from) s v t z l c g b f vs = sound_jump (breaks s) (breaks_to t s) p.Break from v t z l c g b f refl
 sound_at (n.Returned from) s v t z l c g b f vs = sound_returned from v t z l c g b f
 sound_at (n.Thrown from) s v t z l c g b f vs = sound_if (n.Thrown from) (l || may_follow v) _ _ refl refl
 sound_at (n.Cases d) s v t z l c g b f vs = sound_cases d v
 sound_at (n.Handlers from) s v t z l c g b f vs = sound_handlers from v
 sound_at (n.Finally from) s v t z l c g b f vs = sound_finally from v
 
-pub sound : (x : Nonterminal) (s : List Symbol) (u : Sight) (vs : List Tree) → is_sound x (produce x s u vs) ≡ true
-sound x s u vs = sound_at x s u.seen u.text u.number u.line_before u.colon u.target u.before u.from vs
+-- what may stand in the place of a part leads on
+pub record IsSound (x : Nonterminal) (s : List Symbol) : Type 0 where
+  pub lower : front s < rank x
+  pub word : (not (reads_a_word x) || has_word s) ≡ true
+  pub balanced : balances s (needs x) 1 ≡ true
+  pub sorted : leads s (Some (takes x)) (gives x) ≡ true
+
+parted : (x : Nonterminal) (s : List Symbol) → is_sound x s ≡ true → IsSound x s
+parted x s e =
+    let all = and_parts (nat_lt (front s) (rank x)) ((not (reads_a_word x) || has_word s) && (balances s (needs x) 1 && leads s (Some (takes x)) (gives x))) e in
+    let rest = and_parts (not (reads_a_word x) || has_word s) (balances s (needs x) 1 && leads s (Some (takes x)) (gives x)) all.1 in
+    let last = and_parts (balances s (needs x) 1) (leads s (Some (takes x)) (gives x)) rest.1 in
+    record { lower = ltb-true (front s) (rank x) all.0; word = rest.0; balanced = last.0; sorted = last.1 }
+
+pub sound : (x : Nonterminal) (s : List Symbol) (u : Sight) (vs : List Tree) → IsSound x (produce x s u vs)
+sound x s u vs = parted x (produce x s u vs) (sound_at x s u.seen u.text u.number u.line_before u.colon u.target u.before u.from vs)

@@ -29,19 +29,8 @@ use Rattle.js_grammar.specs.Ends.{at, Ends}
 use Rattle.js_grammar.specs.Ends as ends
 use Rattle.js_grammar.proofs.Meta.{answer}
 use Rattle.js_grammar.proofs.One.{one_answer}
-use Rattle.js_grammar.proofs.Sound.{taken, left, needs, stops, balances, reads_a_word, rank, has_word, front, sound}
-
--- what is to be read leads from so many trees to one at the end, or stops before
-abbrev Balanced : List Symbol → ℕ → Type 0
-Balanced [] c = ⊥
-Balanced (End ∷ s) c = (c ≡ 1) × (s ≡ [])
-Balanced (Never ∷ s) c = Unit {0}
-Balanced (Makes b ∷ s) c = (taken b ≤ c) × Balanced s (left b c)
-Balanced (Part x ∷ s) c = (stops x ≡ true) ⊎ ((needs x ≤ c) × Balanced s (c - needs x + 1))
-Balanced (T v ∷ s) c = Balanced s c
-Balanced (Semicolon ∷ s) c = Balanced s c
-Balanced (FreeSemicolon ∷ s) c = Balanced s c
-Balanced (Leave o ∷ s) c = Balanced s c
+use Rattle.js_grammar.specs.inner.Ranks.{Balanced, taken, left, needs, stops, reads_a_word, rank, has_word, front}
+use Rattle.js_grammar.proofs.Sound.{balances, sound}
 
 left_more : (b : Build) (c more : ℕ) → taken b ≤ c → left b c + more ≡ left b (c + more)
 left_more (build.Node q from k) c more l = omega arith
@@ -82,16 +71,14 @@ stopped : (x : Nonterminal) (s : List Symbol) (u : Sight) (vs : List Tree) (c : 
 stopped n.Accessed s u vs c e = (omega arith, inr (omega arith, tt))
 stopped x s u vs c e = absurd (cc)
 
-opened : (x : Nonterminal) (s : List Symbol) (u : Sight) (vs : List Tree) (c : ℕ) → Balanced (Part x ∷ s) c → Balanced (produce x s u vs ++ s) c
+pub opened : (x : Nonterminal) (s : List Symbol) (u : Sight) (vs : List Tree) (c : ℕ) → Balanced (Part x ∷ s) c → Balanced (produce x s u vs ++ s) c
 opened x s u vs c (inl stop) = stopped x s u vs c stop
 opened x s u vs c (inr goes) =
     let p = produce x s u vs in
-    let all = and_parts (nat_lt (front p) (rank x)) ((not (reads_a_word x) || has_word p) && balances p (needs x) 1) (sound x s u vs) in
-    let rest = and_parts (not (reads_a_word x) || has_word p) (balances p (needs x) 1) all.1 in
     let enough : needs x ≤ c = goes.0 in
     let behind : c - needs x + 1 ≡ 1 + (c - needs x) = omega arith in
     let whole : needs x + (c - needs x) ≡ c = omega arith in
-    subst (Balanced (p ++ s)) whole (joined p s (needs x) 1 (c - needs x) rest.1 (subst (Balanced s) behind goes.1))
+    subst (Balanced (p ++ s)) whole (joined p s (needs x) 1 (c - needs x) (sound x s u vs).balanced (subst (Balanced s) behind goes.1))
 
 if_below : (b : Bool) (r m k : ℕ) → m ≤ k → (if b then r else r + m) ≤ (if b then r else r + k)
 if_below true r m k l = omega arith
@@ -134,12 +121,11 @@ lighter_by : (b : Bool) (r whole m k : ℕ) (q : Bool) → m < r → (not b || q
 lighter_by true r whole m k q l e j f = let same : whole ≡ m = f e in omega arith
 lighter_by false r whole m k q l e j f = omega arith
 
-lighter : (x : Nonterminal) (s : List Symbol) (u : Sight) (vs : List Tree) → front (produce x s u vs ++ s) < front (Part x ∷ s)
+pub lighter : (x : Nonterminal) (s : List Symbol) (u : Sight) (vs : List Tree) → front (produce x s u vs ++ s) < front (Part x ∷ s)
 lighter x s u vs =
     let p = produce x s u vs in
-    let all = and_parts (nat_lt (front p) (rank x)) ((not (reads_a_word x) || has_word p) && balances p (needs x) 1) (sound x s u vs) in
-    let rest = and_parts (not (reads_a_word x) || has_word p) (balances p (needs x) 1) all.1 in
-    lighter_by (reads_a_word x) (rank x) (front (p ++ s)) (front p) (front s) (has_word p) (ltb-true (front p) (rank x) all.0) rest.0 (front_join p s) (front_word p s)
+    let is = sound x s u vs in
+    lighter_by (reads_a_word x) (rank x) (front (p ++ s)) (front p) (front s) (has_word p) is.lower is.word (front_join p s) (front_word p s)
 
 grouped_left : (k : ℕ) (ts : Tree) (vs : List Tree) → k ≤ length vs → length (grouped k ts vs).1 + k ≡ length vs
 grouped_left zero ts vs l = omega arith
@@ -147,7 +133,7 @@ grouped_left (suc k) ts [] l = absurd (omega arith)
 grouped_left (suc k) ts (v ∷ vs) l = omega (arith, grouped_left k (Cons v ts) vs (omega arith))
 
 -- a making leaves as many trees as it says
-built_left : (b : Build) (u : Sight) (vs : List Tree) → taken b ≤ length vs → length (built b u vs) ≡ left b (length vs)
+pub built_left : (b : Build) (u : Sight) (vs : List Tree) → taken b ≤ length vs → length (built b u vs) ≡ left b (length vs)
 built_left (build.Node q from k) u vs l = omega (arith, grouped_left k Nil vs l)
 built_left (build.Root q) u [] l = absurd (omega arith)
 built_left (build.Root q) u (v ∷ vs) l = refl
@@ -158,7 +144,7 @@ built_left build.Add u (v ∷ ts ∷ vs) l = omega arith
 built_left build.Missing u vs l = omega arith
 built_left (build.Text t) u vs l = omega arith
 
-le_or_lt : (a b : ℕ) → (a ≤ b) ⊎ (b < a)
+pub le_or_lt : (a b : ℕ) → (a ≤ b) ⊎ (b < a)
 le_or_lt zero b = inl (omega arith)
 le_or_lt (suc a) zero = inr (omega arith)
 le_or_lt (suc a) (suc b) = elim (le_or_lt a b) [ inl l ↦ inl (omega arith) | inr l ↦ inr (omega arith) ]
@@ -177,7 +163,7 @@ is_end (seen.Word k) = inr (λ h. cc)
 is_end seen.Forbidden = inr (λ h. cc)
 is_end seen.End = inl refl
 
-end_seen : (text : Text) (i : ℕ) → length text.tokens.items ≤ i → (at text i).seen ≡ seen.End
+pub end_seen : (text : Text) (i : ℕ) → length text.tokens.items ≤ i → (at text i).seen ≡ seen.End
 end_seen text i l = ap (λ ts. (seen_at text.names (end_before text.tokens.items i) text.tokens.end ts).seen) (drop_all i text.tokens.items l)
 
 abbrev Ended : Text → List Symbol → List Tree → ℕ → Type 0
@@ -240,7 +226,7 @@ from : (text : Text) (more i : ℕ) → length text.tokens.items ≤ i + more �
 from text zero i l s vs h = steps text i (λ v e s vs h. absurd (let end : (at text i).seen ≡ seen.End = end_seen text i (omega arith) in cc)) (suc (front s)) s vs (omega arith) h
 from text (suc more) i l s vs h = steps text i (λ v e s vs h. from text more (i + 1) (omega arith) s vs h) (suc (front s)) s vs (omega arith) h
 
-balanced_beginning : (start : Start) → Balanced (beginning start) 0
+pub balanced_beginning : (start : Start) → Balanced (beginning start) 0
 balanced_beginning Program = (omega arith, inr (omega arith, (omega arith, (refl, refl))))
 balanced_beginning Handler = (omega arith, inr (omega arith, (omega arith, (refl, refl))))
 

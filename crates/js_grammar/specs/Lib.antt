@@ -7,3 +7,4 @@ pub mod Laws
 pub mod Ends
 pub mod Programs
 pub mod Precedence
+pub mod inner

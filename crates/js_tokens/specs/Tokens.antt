@@ -1,7 +1,8 @@
 -- The tokens of a text (ECMA-262 edition 5.1, clause 7): its units with white space, line terminators and comments between them,
 -- each the longest at its place.
-use Rattle.std.specs.Prelude.{◌≡◌, ◌≢◌, ℕ, ◌+◌, ◌-◌, ◌<◌, ◌≤◌, ◌^◌, pos, Bool, true, false, ◌&&◌, ◌==◌, List, [], ◌∷◌, length, take, drop}
+use Rattle.std.specs.Prelude.{◌≡◌, ◌≢◌, ℕ, ◌+◌, ◌-◌, ◌<◌, ◌≤◌, pos, Bool, true, false, ◌&&◌, ◌==◌, List, [], ◌∷◌, length, take, drop}
 use Rattle.std.specs.List.{list_all}
+use Rattle.mug_text.specs.declared.limits.TheConstants.{SAFE_END}
 use Rattle.js_tokens.specs.Units.{is_start, is_part, is_quote, begins}
 use Rattle.js_tokens.specs.Words.{spelling}
 use Rattle.js_tokens.specs.Numbers.{is_numeral, numeral_value, goes_on}
@@ -18,12 +19,12 @@ abbrev pub is_name : List ℕ → Bool
 is_name us = begins is_start us && list_all is_part us
 
 -- The first units, so many, are one token of this kind and word. A name is no reserved word, and a punctuator is a word that is no name.
--- A number is at most 2^53 - 1, and what may not stand behind a number doesn't. A string is two quotes and the pieces between them.
+-- A number is below `SAFE_END`, and what may not stand behind a number doesn't. A string is two quotes and the pieces between them.
 abbrev pub Spells : TokenKind → Word → List ℕ → ℕ → Type 0
 Spells (Name t) w us n = (is_name (take n us) ≡ true) × ((v : Word) → take n us ≢ spelling v) × (w ≡ name_word) × (t ≡ take n us)
 Spells (Reserved t) w us n = (is_name (take n us) ≡ true) × (take n us ≡ spelling w) × (t ≡ take n us)
 Spells (Punctuator t) w us n = (is_name (take n us) ≡ false) × (take n us ≢ []) × (take n us ≡ spelling w) × (t ≡ take n us)
-Spells (Number z) w us n = (is_numeral (take n us) ≡ true) × (numeral_value (take n us) < 2 ^ 53) × (goes_on (drop n us) ≡ false) × (w ≡ number_word) × (z ≡ pos (numeral_value (take n us)))
+Spells (Number z) w us n = (is_numeral (take n us) ≡ true) × (numeral_value (take n us) < SAFE_END) × (goes_on (drop n us) ≡ false) × (w ≡ number_word) × (z ≡ pos (numeral_value (take n us)))
 Spells (Text t) w us n = (quote : ℕ) × (m : ℕ) × (is_quote quote ≡ true) × (begins (λ u. u == quote) us ≡ true) × Inside quote (drop 1 us) m t × (n ≡ m + 2) × (w ≡ text_word)
 
 abbrev pub Stands : TokenKind → Word → List ℕ → ℕ → Type 0

@@ -1,5 +1,5 @@
 // Number literals.
-ghost use Rattle.std.specs.Prelude.{◌≡◌, ℕ, ℤ, ◌≤◌, ◌^◌, true, false, min, length, MatchOption};
+ghost use Rattle.std.specs.Prelude.{◌≡◌, ℕ, ℤ, ◌≤◌, true, false, min, length, MatchOption};
 ghost use Rattle.std.specs.List.{take_while};
 ghost use Rattle.js_tokens.specs.Units.{is_part};
 ghost use Rattle.js_tokens.specs.Numbers.{is_numeral, numeral_value};
@@ -34,9 +34,9 @@ pub(crate) fn number_at(units: &[u16]) -> Option<Found>
     })
 }
 
-// The number that these units spell, or 2^53 where it is above that.
+// The number that these units spell, or `SAFE_END` where it is above that.
 fn numeral_of(units: &[u16]) -> Option<u64>
-    ensures { MatchOption result (is_numeral units.now ≡ false) (λ n. (is_numeral units.now ≡ true) × (n ≡ min (numeral_value units.now) (2 ^ 53))) }
+    ensures { MatchOption result (is_numeral units.now ≡ false) (λ n. (is_numeral units.now ≡ true) × (n ≡ min (numeral_value units.now) SAFE_END)) }
 {
     if opens(units, b"0x") {
         return digits_number(16, &units[2..]);

@@ -4,6 +4,7 @@ use Rattle.std.specs.List.{slice_get}
 use Rattle.std.proofs.lemmas.List.{length_push}
 use Rattle.std.proofs.lemmas.Option.{same_Some, none-some}
 use Rattle.js_tree.specs.declared.node.NodeId.{NodeId}
+use Rattle.js_tree.specs.declared.script.TheConstants.{NODES_END}
 use Rattle.js_tree.specs.declared.script.Kept.{Kept}
 use Rattle.js_tree.specs.declared.script.Pending.{Pending}
 use Rattle.js_tree.specs.declared.script.Braces.{Braces}
@@ -40,7 +41,7 @@ function_within : (head : FunctionHead) (n b : ℕ) → IsWithin n (b + 1) (part
 function_within (head.Expression h) n b = (named_within n (b + 1) h.value.name, (words_within n (b + 1) h.value.parameters, (omega arith, tt)))
 function_within (head.Declaration h) n b = (tt, (words_within n (b + 1) h.value.parameters, (omega arith, tt)))
 
-pub function_added : (arena : Arena) → IsOrdered arena → length arena.kept < 4294967295 → length arena.pending < 4294967295
+pub function_added : (arena : Arena) → IsOrdered arena → length arena.kept < NODES_END → length arena.pending < NODES_END
     → (head : FunctionHead) (from to : ℕ) (braces : Braces) → IsOrdered (with_function head from to braces arena)
 function_added arena is few few_bodies head from to braces =
     let new : Kept = record { node = function_of head (record { number = length arena.pending }); from = from; to = to } in
@@ -70,7 +71,7 @@ function_added arena is few few_bodies head from to braces =
 
 -- the same where the lists are known by equations
 pub function_pushed : (arena : Arena) → IsOrdered arena → (head : FunctionHead) (from to : ℕ) (braces : Braces) (n m : ℕ)
-    → n ≡ length arena.kept → m ≡ length arena.pending → n < 4294967295 → m < 4294967295
+    → n ≡ length arena.kept → m ≡ length arena.pending → n < NODES_END → m < NODES_END
     → (kept : List Kept) (pending : List Pending) (filled : List (Option NodeId))
     → kept ≡ arena.kept ++ record { node = function_of head (record { number = m }); from = from; to = to } ∷ []
     → pending ≡ arena.pending ++ pending_of n braces ∷ []
@@ -85,7 +86,7 @@ function_pushed arena is head from to braces n m n_is m_is few few_bodies kept p
     } in
     subst IsOrdered (sym same) (function_added arena is (omega arith) (omega arith) head from to braces)
 
-pub node_added : (arena : Arena) → IsOrdered arena → length arena.kept < 4294967295 → (k : Kept) → IsWithin (length arena.kept) (length arena.pending) (parts k.node) → IsOrdered (with_node k arena)
+pub node_added : (arena : Arena) → IsOrdered arena → length arena.kept < NODES_END → (k : Kept) → IsWithin (length arena.kept) (length arena.pending) (parts k.node) → IsOrdered (with_node k arena)
 node_added arena is few new within =
     let nodes_len : length (arena.kept ++ new ∷ []) ≡ length arena.kept + 1 = length_push arena.kept new in
     record {

@@ -7,6 +7,7 @@ use Rattle.std.specs.Prelude.{IfSome}
 use Rattle.std.proofs.lemmas.Bool.Decides.{nat_tests}
 use Rattle.std.proofs.lemmas.Option.{same_Some, none-some}
 use Rattle.js_tree.specs.declared.node.NodeId.{NodeId}
+use Rattle.js_tree.specs.declared.script.TheConstants.{NODES_END}
 use Rattle.js_tree.specs.declared.script.Kept.{Kept}
 use Rattle.js_tree.specs.declared.script.Pending.{Pending}
 use Rattle.js_tree.specs.declared.script.Braces.{Braces}
@@ -104,13 +105,13 @@ all_still a old is kept pending filled new k p f same =
     let all : ◌≡◌ {A = Arena} a (record { kept = kept; pending = pending; filled = filled }) = λ i. record { kept = sym k i; pending = sym p i; filled = sym f i } in
     subst (λ b. IsKept b new) all (is.0, λ unit. same unit ∙ is.1 unit)
 
-pub node_kept : (a : Arena) (index : BTreeMap ℕ NodeId) → IsKept a index → length a.kept < 4294967295 → (k : Kept) → IsWithin (length a.kept) (length a.pending) (parts k.node)
+pub node_kept : (a : Arena) (index : BTreeMap ℕ NodeId) → IsKept a index → length a.kept < NODES_END → (k : Kept) → IsWithin (length a.kept) (length a.pending) (parts k.node)
     → (kept : List Kept) → kept ≡ a.kept ++ k ∷ [] → IsKept (record { kept = kept; pending = a.pending; filled = a.filled }) index
 node_kept a index is few k within kept e =
     subst (λ kept. IsKept (record { kept = kept; pending = a.pending; filled = a.filled }) index) (sym e) (node_added a is.0 few k within, node_indexed a is.0 index is.1 (k ∷ []))
 
 pub function_kept : (a : Arena) (old new : BTreeMap ℕ NodeId) → IsKept a old → (head : FunctionHead) (from to : ℕ) (braces : Braces) (n m : ℕ)
-    → n ≡ length a.kept → m ≡ length a.pending → n < 4294967295 → m < 4294967295 → PutsFunction from (record { number = n }) old new
+    → n ≡ length a.kept → m ≡ length a.pending → n < NODES_END → m < NODES_END → PutsFunction from (record { number = n }) old new
     → (kept : List Kept) (pending : List Pending) (filled : List (Option NodeId))
     → kept ≡ a.kept ++ record { node = function_of head (record { number = m }); from = from; to = to } ∷ []
     → pending ≡ a.pending ++ pending_of n braces ∷ []

@@ -1,12 +1,13 @@
 -- An arena as the lists of its nodes and of the bodies of its functions. A node's number is its place among the nodes, and a body's
 -- its place among the bodies.
-use Rattle.std.specs.Prelude.{◌≡◌, ℕ, ◌-◌, ◌<◌, ◌^◌, Bool, true, false, ◌&&◌, ◌==◌, List, [], ◌∷◌, ◌++◌, length, Option, Some, None, slice_get, slice_set, if◌then◌else◌}
+use Rattle.std.specs.Prelude.{◌≡◌, ℕ, ◌-◌, ◌<◌, ◌≤◌, Bool, true, false, ◌&&◌, ◌==◌, List, [], ◌∷◌, ◌++◌, length, Option, Some, None, slice_get, slice_set, if◌then◌else◌}
 use Rattle.std.specs.Option.{option_map}
 use Rattle.js_tree.specs.declared.node.NodeId.{NodeId}
 use Rattle.js_tree.specs.declared.node.BodyId.{BodyId}
 use Rattle.js_tree.specs.declared.node.Scope.{Scope}
 use Rattle.js_tree.specs.declared.node.Node.{Node}
 use Rattle.js_tree.specs.declared.node.Node.TheVariants as node
+use Rattle.js_tree.specs.declared.script.TheConstants.{NODES_END}
 use Rattle.js_tree.specs.declared.script.Kept.{Kept}
 use Rattle.js_tree.specs.declared.script.Pending.{Pending}
 use Rattle.js_tree.specs.declared.script.Braces.{Braces}
@@ -29,8 +30,8 @@ IsWithin count bodies _ = Unit {0}
 
 -- a node names only nodes before it, and bodies that are there; what is named elsewhere is there
 pub record IsOrdered (arena : Arena) : Type 0 where
-  pub few_nodes : length arena.kept < 2 ^ 32
-  pub few_bodies : length arena.pending < 2 ^ 32
+  pub few_nodes : length arena.kept ≤ NODES_END
+  pub few_bodies : length arena.pending ≤ NODES_END
   pub as_many : length arena.filled ≡ length arena.pending
   pub nodes : (i : ℕ) (k : Kept) → slice_get arena.kept i ≡ Some k → IsWithin i (length arena.pending) (parts k.node)
   pub functions : (i : ℕ) (p : Pending) → slice_get arena.pending i ≡ Some p → p.node.number < length arena.kept

@@ -94,7 +94,7 @@ pub enum Node {
     Name(JText),
     Null,
     Bool(bool),
-    /// At most 2^53 - 1.
+    /// Below `SAFE_END` of `mug_text`.
     Number(i64),
     Text(JText),
     /// An element that isn't there is a hole.

@@ -75,7 +75,7 @@ pub enum Production {
     Name,
     Null,
     Bool(bool),
-    /// At most 2^53 - 1.
+    /// Below `SAFE_END` of `mug_text`.
     Number(i64),
     Text,
     Array,

@@ -6,13 +6,13 @@ ghost use Rattle.js_tree.specs.Indexed.{KeepsFunctions, PutsFunction};
 ghost use Rattle.js_tree.specs.Arena.{IsOrdered, IsWithin, declared, empty, function_at, function_of, handler_among, node_at, scope, scope_of_body, span_at, with_body, with_function, with_node};
 
 use crate::node::{BodyId, DeclarationHead, ExpressionHead, Node, NodeId, Scope};
-use mug_text::{JText, NoMemory};
+use mug_text::{INDEX_END, JText, NoMemory};
 use std::alloc::{AllocError, Global};
 use std::collections::BTreeMap;
 use std::marker::Model;
 
 /// A script has at most so many nodes, and at most so many bodies.
-pub const NODES_END: usize = 4_294_967_295;
+pub const NODES_END: usize = INDEX_END as usize;
 
 /// A node with its span: its first unit, and the unit behind its last.
 #[derive(Debug, Drop)]
@@ -115,7 +115,7 @@ impl Script {
         self.nodes.len()
     }
 
-    /// Puts a node behind the others. A script has fewer than 2^32 nodes: one more is answered as want of memory.
+    /// Puts a node behind the others. Behind `NODES_END` nodes one more is answered as want of memory.
     pub fn add(&mut self, node: Node, from: u32, to: u32) -> Result<NodeId, NoMemory>
         requires { IsWithin (length self.old.kept) (length self.old.pending) (parts node) }
         ensures number { IfOk result (λ id. id.number ≡ length self.old.kept) }
@@ -134,8 +134,8 @@ impl Script {
         })
     }
 
-    /// Puts a function behind the other nodes; its body is the last of those that have to be read. A script has fewer than 2^32
-    /// nodes and bodies: one more is answered as want of memory.
+    /// Puts a function behind the other nodes; its body is the last of those that have to be read. Behind `NODES_END` nodes or
+    /// bodies one more is answered as want of memory.
     pub fn add_function(
         &mut self,
         head: FunctionHead,

@@ -8,9 +8,6 @@ use mug_text::NoMemory;
 use std::alloc::Global;
 use written_text::written_text;
 
-// The steps that a text is given.
-const STEPS: usize = 10_000_000;
-
 /// How the text of a line ends; of one that begins with `tree`, with the tree of its page. After `tokens` its tokens are listed, and
 /// after `scope` the names of a call's scope.
 pub fn answer_of(alloc: Global, line: &str) -> Result<String, NoMemory> {
@@ -66,18 +63,17 @@ fn of_tokens(
     start: Start,
     with_tree: bool,
 ) -> Result<String, NoMemory> {
-    match plain_answer(alloc, tokens, names, start, STEPS)? {
-        Some(PlainAnswer::Accepted { forest, root }) if with_tree => shown(alloc, &forest, root),
-        Some(PlainAnswer::Accepted { .. }) => Ok(String::from_str(alloc, "accepted")?),
-        Some(PlainAnswer::Unexpected(token)) => Ok(format!(in alloc;
+    match plain_answer(alloc, tokens, names, start)? {
+        PlainAnswer::Accepted { forest, root } if with_tree => shown(alloc, &forest, root),
+        PlainAnswer::Accepted { .. } => Ok(String::from_str(alloc, "accepted")?),
+        PlainAnswer::Unexpected(token) => Ok(format!(in alloc;
             "unexpected {}",
             unit_of(tokens, token)
         )?),
-        Some(PlainAnswer::TooDeep(token)) => Ok(format!(in alloc;
+        PlainAnswer::TooDeep(token) => Ok(format!(in alloc;
             "too deep {}",
             unit_of(tokens, token)
         )?),
-        None => Ok(String::from_str(alloc, "out of steps")?),
     }
 }
 

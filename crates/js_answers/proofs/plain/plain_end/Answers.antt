@@ -1,25 +1,22 @@
-use Rattle.js_answers.proofs.Going.{underway_first, underway_on, ended_unexpected, ended_deep, ended_accepted}
+use Rattle.std.proofs.Common.{◌≡◌, ◌+◌, ◌<◌, length, arith}
+use Rattle.js_answers.proofs.Going.{underway_first, underway_goes, underway_on, underway_down, underway_ended}
 use Rattle.js_answers.proofs.plain.plain_end.Goals as goal
 
-pub loop-step-init : goal.loop-step-init
-loop-step-init c = underway_first c.args.tokens.now c.args.names c.args.start c.in_ok-reading.reading c.in_ok-reading.ensures.at c.in_ok-reading.ensures.trees c.in_ok-reading.ensures.stack c.in_ok-reading.ensures.place
+pub words-init : goal.words-init
+words-init c = underway_first c.args.tokens.now c.args.names c.args.start c.in_ok-reading.reading c.in_ok-reading.ensures.at c.in_ok-reading.ensures.trees c.in_ok-reading.ensures.stack c.in_ok-reading.ensures.place
 
-pub loop-step-preserved : goal.loop-step-preserved
-loop-step-preserved c =
-    let u = c.loop-step.invariant in
-    underway_on u c.step.new.self c.in_ok-step.field-0 c.in-On.is c.in_ok-step.ensures.at (c.in_ok-step.ensures.goes c.args.start u.trees u.holds)
+pub run-requires : goal.run-requires
+run-requires c = record { at = c.words.invariant.at; goes = underway_goes c.words.invariant }
 
-pub returns-in-Accepted : goal.returns-in-Accepted
-returns-in-Accepted c =
-    let u = c.loop-step.invariant in
-    ended_accepted u c.step.new.self c.in_ok-step.field-0 c.in-Accepted.root c.accepted.result c.in-Accepted.is c.accepted.ensures (c.in_ok-step.ensures.goes c.args.start u.trees u.holds)
+pub words-preserved : goal.words-preserved
+words-preserved c = underway_on c.words.invariant c.run.new.self c.in_ok-end.field-0 c.in_default.is c.in_ok-end.ensures.at c.in_ok-end.ensures.arrives
 
-pub returns-in-Unexpected : goal.returns-in-Unexpected
-returns-in-Unexpected c =
-    let u = c.loop-step.invariant in
-    ended_unexpected u c.step.new.self c.in_ok-step.field-0 c.in-Unexpected.place c.in-Unexpected.is (c.in_ok-step.ensures.goes c.args.start u.trees u.holds)
+pub words-smaller : goal.words-smaller
+words-smaller c =
+    let less = underway_down c.words.invariant c.run.new.self c.in_ok-end.field-0 c.in_default.is c.in_ok-end.ensures.arrives in
+    let on : c.run.new.self.place ≡ c.words.reading.place + 1 = less.0 in
+    let room : c.words.reading.place < length c.args.tokens.now.items = less.1 in
+    omega arith
 
-pub returns-in-TooDeep : goal.returns-in-TooDeep
-returns-in-TooDeep c =
-    let u = c.loop-step.invariant in
-    ended_deep u c.step.new.self c.in_ok-step.field-0 c.in-TooDeep.place c.in-TooDeep.is (c.in_ok-step.ensures.goes c.args.start u.trees u.holds)
+pub returns-in-Some : goal.returns-in-Some
+returns-in-Some c = underway_ended c.words.invariant c.run.new.self c.in_ok-end.field-0 c.in-Some.end c.shown.result c.in-Some.is c.in_ok-end.ensures.arrives c.shown.ensures

@@ -22,4 +22,4 @@ returns-in_default-clause-rest c vs h = (few (goal.at.returns-in_default-clause-
 pub trees-preserved : goal.trees-preserved
 trees-preserved c vs h =
     let more = grouping_more (c.trees.invariant vs h) c.kept.new.self.items.items c.pop.new.self.items c.in-Some.piece c.in_ok-part.part (c.trees.left - 1) c.in-Some.ensures.items (omega arith) c.in_ok-part.ensures.kept c.in_ok-part.ensures.holds in
-    subst (λ z. Grouping c.kept.new.self.items.items c.pop.new.self.items z (c.trees.left - 1) c.args.count vs) (sym {A = List ℕ} c.in-Ok.ensures.items) more
+    subst (λ z. Grouping c.kept.new.self.items.items c.pop.new.self.items z (c.trees.left - 1) c.args.count vs) (sym {A = List ℕ} c.in_ok-insert.ensures.items) more

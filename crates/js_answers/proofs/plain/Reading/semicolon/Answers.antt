@@ -2,14 +2,14 @@ use Rattle.std.proofs.Common.{sym, ◌∙◌}
 use Rattle.js_answers.proofs.Going.{semicolon_on, semicolon_deep, semicolon_inserted, semicolon_missing}
 use Rattle.js_answers.proofs.plain.Reading.semicolon.Goals as goal
 
+pub returns-then-not-may_stand-clause-goes : goal.returns-then-not-may_stand-clause-goes
+returns-then-not-may_stand-clause-goes c = semicolon_deep c.requires c.if-is_seen.ensures c.if-not-may_stand.ensures
+
 pub returns-then-is_seen-clause-goes : goal.returns-then-is_seen-clause-goes
-returns-then-is_seen-clause-goes c start vs h = semicolon_on c.requires start vs c.if-is_seen.ensures c.if-not-may_stand.ensures c.advance.new.self c.in_ok-advance.ensures h
+returns-then-is_seen-clause-goes c = semicolon_on c.requires c.if-is_seen.ensures c.if-not-may_stand.ensures c.advance.new.self c.in_ok-advance.ensures
 
 pub returns-then-may_insert-clause-goes : goal.returns-then-may_insert-clause-goes
-returns-then-may_insert-clause-goes c start vs h = semicolon_inserted c.requires start vs c.if-is_seen.ensures (sym c.may_insert.ensures ∙ c.if-may_insert.true) h
+returns-then-may_insert-clause-goes c = semicolon_inserted c.requires c.if-is_seen.ensures (sym c.may_insert.ensures ∙ c.if-may_insert.true)
 
 pub returns-else-may_insert-clause-goes : goal.returns-else-may_insert-clause-goes
-returns-else-may_insert-clause-goes c start vs h = semicolon_missing c.requires start vs c.if-is_seen.ensures (sym c.may_insert.ensures ∙ c.if-may_insert.false)
-
-pub returns-then-not-may_stand-clause-goes : goal.returns-then-not-may_stand-clause-goes
-returns-then-not-may_stand-clause-goes c start vs h = semicolon_deep c.requires start vs c.if-is_seen.ensures c.if-not-may_stand.ensures
+returns-else-may_insert-clause-goes c = semicolon_missing c.requires c.if-is_seen.ensures (sym c.may_insert.ensures ∙ c.if-may_insert.false)

@@ -2,10 +2,10 @@ use Rattle.js_answers.proofs.Going.{word_refused, word_deep, word_on}
 use Rattle.js_answers.proofs.plain.Reading.word.Goals as goal
 
 pub returns-then-not-is_seen-clause-goes : goal.returns-then-not-is_seen-clause-goes
-returns-then-not-is_seen-clause-goes c start vs h = word_refused c.requires start vs c.args.word c.if-not-is_seen.ensures
+returns-then-not-is_seen-clause-goes c = word_refused c.requires c.args.word c.if-not-is_seen.ensures
 
 pub returns-then-not-may_stand-clause-goes : goal.returns-then-not-may_stand-clause-goes
-returns-then-not-may_stand-clause-goes c start vs h = word_deep c.requires start vs c.args.word c.if-not-is_seen.ensures c.if-not-may_stand.ensures
+returns-then-not-may_stand-clause-goes c = word_deep c.requires c.args.word c.if-not-is_seen.ensures c.if-not-may_stand.ensures
 
 pub returns-clause-goes : goal.returns-clause-goes
-returns-clause-goes c start vs h = word_on c.requires start vs c.args.word c.if-not-is_seen.ensures c.if-not-may_stand.ensures c.advance.new.self c.in_ok-advance.ensures h
+returns-clause-goes c = word_on c.requires c.args.word c.if-not-is_seen.ensures c.if-not-may_stand.ensures c.advance.new.self c.in_ok-advance.ensures
