@@ -5,8 +5,8 @@ use Rattle.js_value.specs.Same.{text_equal}
 use Rattle.js_value.specs.declared.value.Value.{Value}
 use Rattle.js_heap.specs.Binding.{Binding}
 use Rattle.js_heap.specs.Names.{binding_of, bindings, value_bound, with_binding}
-use Rattle.js_heap.specs.Properties.{property_named, value_named, with_property}
-use Rattle.js_heap.specs.declared.property.Property.{Property}
+use Rattle.js_table.specs.Properties.{property_named, value_named, with_property}
+use Rattle.js_table.specs.declared.property.Property.{Property}
 
 value-cond : (b : Bool) (p : Property) (o : Option Property) → cond b (Some p.value) (option_map (λ q. q.value) o) ≡ option_map (λ q. q.value) (cond b (Some p) o)
 value-cond true p o = refl

@@ -1,5 +1,5 @@
 pub mod Bindings
 pub mod ChainSteps
-pub mod ElementLemmas
-pub mod Places
+pub mod Closing
+pub mod Spelled
 pub mod Walks

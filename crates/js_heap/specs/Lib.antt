@@ -1,6 +1,8 @@
 pub mod Binding
 pub mod Chains
+pub mod Closed
 pub mod Elements
+pub mod Keys
 pub mod Names
 pub mod Objects
 pub mod Properties

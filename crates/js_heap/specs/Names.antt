@@ -3,7 +3,7 @@ use Rattle.std.specs.Prelude.{ℕ, List, [], ◌∷◌, Option, Some, None, map,
 use Rattle.js_value.specs.Same.{text_equal}
 use Rattle.js_value.specs.declared.value.Value.{Value}
 use Rattle.js_heap.specs.Binding.{Binding}
-use Rattle.js_heap.specs.declared.property.Property.{Property}
+use Rattle.js_table.specs.declared.property.Property.{Property}
 
 -- the value of this name
 abbrev pub value_bound : List ℕ → List Binding → Option Value

@@ -7,7 +7,7 @@ use Rattle.js_value.specs.declared.value.ObjId.{ObjId}
 use Rattle.js_value.specs.declared.value.Value.{Value}
 use Rattle.js_value.specs.declared.value.Value.TheVariants as value
 use Rattle.js_heap.specs.Chains.{chain, first_some}
-use Rattle.js_heap.specs.Properties.{property_named, value_named, without}
+use Rattle.js_table.specs.Properties.{property_named, value_named, without}
 use Rattle.js_heap.specs.World.{Object, Property, World}
 use Rattle.js_heap.specs.declared.class.Class.{Class}
 use Rattle.js_heap.specs.declared.class.Class.TheVariants as class

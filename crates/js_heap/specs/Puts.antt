@@ -5,7 +5,7 @@ use Rattle.js_value.specs.declared.value.ObjId.{ObjId}
 use Rattle.js_value.specs.declared.value.Value.{Value}
 use Rattle.js_heap.specs.Elements.{cut, length_in, with_element}
 use Rattle.js_heap.specs.Objects.{changed_at, is_length}
-use Rattle.js_heap.specs.Properties.{with_property}
+use Rattle.js_table.specs.Properties.{with_property}
 use Rattle.js_heap.specs.World.{Object, Property, World}
 use Rattle.js_heap.specs.declared.class.Class.{Class}
 use Rattle.js_heap.specs.declared.class.Class.TheVariants as class

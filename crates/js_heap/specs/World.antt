@@ -5,7 +5,7 @@ use Rattle.js_value.specs.declared.value.ObjId.{ObjId}
 use Rattle.js_heap.specs.declared.class.Class.{Class}
 use Rattle.js_heap.specs.declared.class.ScopeId.{ScopeId}
 -- a property of an object's own: its name by its units, its value, and whether for-in goes through it (ECMA-262 edition 5.1, 8.6.1)
-pub use Rattle.js_heap.specs.declared.property.Property.{Property}
+pub use Rattle.js_table.specs.declared.property.Property.{Property}
 -- an object (8.6): its class with what it holds by it, its prototype, and its own properties in the order in which they were added
 pub use Rattle.js_heap.specs.declared.object.Object.{Object}
 -- a name in a scope, and its value

@@ -1,33 +1,16 @@
 // Arrays: their elements and their `length`.
-ghost use Rattle.std.specs.Prelude.{◌≡◌, ◌↔◌, ◌<◌, None, true, codes, IfSome, OnOk, OnErr};
+ghost use Rattle.std.specs.Prelude.{◌≡◌, ◌↔◌, ◌<◌, None, Some, true, codes, decimal, OnOk, OnErr};
 ghost use Rattle.js_value.specs.Same.{text_equal};
+ghost use Rattle.js_table.specs.Indices as indices;
 ghost use Rattle.js_heap.specs.Elements as spec;
 ghost use Rattle.js_heap.specs.Puts as puts;
 
 use crate::object::Object;
 use crate::objects::LENGTH;
-use crate::table::Table;
 use crate::{Class, PutFault};
+use js_table::{Spelling, Table, index_of};
 use js_value::{Num, Value};
-use mug_text::{INDEX_END, JText};
-
-// The array index that the name spells.
-fn index_of(name: &JText) -> Option<u32>
-    ensures index { result ≡ spec.index_of name.now }
-    ensures small { IfSome result (λ n. n < INDEX_END) }
-{
-    name.index_of_key()
-}
-
-// Whether the name is an index from `low` on, below `high`.
-pub(crate) fn is_within(name: &JText, low: u32, high: u32) -> bool
-    ensures { result ≡ spec.is_within low high name.now }
-{
-    match index_of(name) {
-        Some(index) => low <= index && index < high,
-        None => false,
-    }
-}
+use mug_text::{INDEX_END, JText, NoMemory};
 
 // The length that a value is.
 fn length_in(value: &Value) -> Option<u32>
@@ -73,10 +56,10 @@ fn cut(properties: &mut Table, length: u32)
 }
 
 // Raises an array's `length` above the index.
-fn raise(properties: &mut Table, name: &JText)
-    ensures { properties.new ≡ spec.raised (spec.index_of name.now) properties.old }
+fn raise(properties: &mut Table, index: u32)
+    requires { index < INDEX_END }
+    ensures { properties.new ≡ spec.raised (Some index) properties.old }
 {
-    let Some(index) = index_of(name) else { return };
     if index >= length_of(properties) {
         change_length(properties, index + 1);
     }
@@ -99,7 +82,9 @@ fn put_element(
         return Ok(());
     }
     properties.put(name, value, listed)?;
-    raise(properties, name);
+    if let Some(index) = index_of(name) {
+        raise(properties, index);
+    }
     Ok(())
 }
 
@@ -119,6 +104,42 @@ pub(crate) fn put_in(
     } else {
         object.properties.put(name, value, listed)?;
         Ok(())
+    }
+}
+
+// Gives an array's name that the number spells a value.
+fn put_spelled(
+    properties: &mut Table,
+    index: u32,
+    value: Value,
+    listed: bool,
+) -> Result<(), NoMemory>
+    ensures ok { OnOk result (properties.new ≡ spec.with_element (decimal index) value listed properties.old) }
+    ensures err { OnErr result (properties.new ≡ properties.old) }
+{
+    properties.put_units(Spelling::of(index).as_slice(), value, listed)?;
+    if index < INDEX_END {
+        raise(properties, index);
+    }
+    Ok(())
+}
+
+// Gives the object's own property that the number spells a value.
+pub(crate) fn put_at(
+    object: &mut Object,
+    index: u32,
+    value: Value,
+    listed: bool,
+) -> Result<(), NoMemory>
+    ensures ok { OnOk result (object.new ≡ puts.object_with (decimal index) value listed object.old) }
+    ensures err { OnErr result (object.new ≡ object.old) }
+{
+    if matches!(object.class, Class::Array) {
+        put_spelled(&mut object.properties, index, value, listed)
+    } else {
+        object
+            .properties
+            .put_units(Spelling::of(index).as_slice(), value, listed)
     }
 }
 

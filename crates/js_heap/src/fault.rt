@@ -1,11 +1,11 @@
 // Why there is no new object or scope, or no new value.
 ghost use Rattle.std.specs.Prelude.{◌≡◌};
 
-use mug_text::NoMemory;
+use mug_text::{INDEX_END, NoMemory};
 use thiserror::Error;
 
-/// The objects of a heap, and its scopes: at most so many.
-pub const COUNT_LIMIT: usize = 0xFFFF_FFFE;
+/// The objects of a heap, and its scopes: at most so many, so that each number and each count is an array index.
+pub const COUNT_LIMIT: usize = INDEX_END as usize - 1;
 
 /// Why there is no new object or scope.
 #[derive(Clone, Copy, Debug, PartialEq, Eq, Error)]

@@ -1,6 +1,6 @@
 // Objects.
 use crate::Class;
-use crate::table::Table;
+use js_table::Table;
 use js_value::ObjId;
 
 // An object: its class, its prototype and its own properties.

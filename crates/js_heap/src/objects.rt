@@ -2,14 +2,17 @@
 ghost use Rattle.std.specs.Prelude.{◌≡◌, ◌<◌, ◌++◌, ◌∷◌, [], Some, IfOk, OnOk, OnErr, length, codes, map};
 ghost use Rattle.std.specs.Option.{option_copied};
 ghost use Rattle.js_heap.specs.Chains.{LeadsBack};
+ghost use Rattle.js_table.specs.Listing.{listed_names};
+ghost use Rattle.js_heap.specs.Keys.{properties_along};
 ghost use Rattle.js_heap.specs.Objects as spec;
 ghost use Rattle.js_heap.specs.Roots.{builtin, to_prototype};
 
 use crate::Class;
 use crate::object::Object;
-use crate::table::Table;
+use indexmap::IndexSet;
+use js_table::Table;
 use js_value::{Num, ObjId, Value};
-use mug_text::{JText, NoMemory};
+use mug_text::{JText, Listed, NoMemory};
 use std::alloc::Global;
 
 // What a new object of this class has at first.
@@ -52,6 +55,29 @@ pub(crate) fn value_along<'a>(objects: &'a [Object], obj: ObjId, name: &[u16]) -
         match object.prototype {
             Some(prototype) => at = prototype,
             None => return None,
+        }
+    }
+}
+
+// The names that for-in goes through.
+pub(crate) fn keys_along(
+    alloc: Global,
+    objects: &[Object],
+    obj: ObjId,
+) -> Result<Listed<JText>, NoMemory>
+    requires back { LeadsBack spec.prototype_number objects.now }
+    requires there { obj.number < length objects.now }
+    ensures { IfOk result (λ names. names ≡ listed_names (properties_along objects.now (Some obj.number))) }
+{
+    let mut seen = IndexSet::new(alloc);
+    let mut names = Listed::new(alloc);
+    let mut at = obj;
+    loop {
+        let object = &objects[at.number as usize];
+        object.properties.list_names(&mut seen, &mut names)?;
+        match object.prototype {
+            Some(prototype) => at = prototype,
+            None => return Ok(names),
         }
     }
 }

@@ -4,7 +4,7 @@ ghost use Rattle.std.specs.Option.{option_copied};
 ghost use Rattle.js_heap.specs.Names.{value_bound, with_binding};
 
 use crate::ScopeId;
-use crate::table::Table;
+use js_table::Table;
 use js_value::Value;
 use mug_text::{JText, NoMemory};
 use std::alloc::Global;

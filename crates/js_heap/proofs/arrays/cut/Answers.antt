@@ -1,6 +1,7 @@
 use Rattle.std.proofs.Common.{◌≤◌, ap, arith, sym, ◌∙◌}
-use Rattle.js_heap.specs.Elements.{length_of, with_length, without_elements}
-use Rattle.js_heap.proofs.ElementLemmas.{without_elements-none}
+use Rattle.js_heap.specs.Elements.{length_of, with_length}
+use Rattle.js_table.specs.Indices.{without_elements}
+use Rattle.js_table.proofs.ElementLemmas.{without_elements-none}
 use Rattle.js_heap.proofs.arrays.cut.Goals as goal
 use Rattle.js_heap.proofs.arrays.cut.Goals.{then-length-before, else-length-before}
 

@@ -2,7 +2,7 @@ use Rattle.std.proofs.Common.{ℕ, Option, None, ap, arith, sym, ◌∙◌}
 use Rattle.std.specs.Option.{option_map}
 use Rattle.js_value.specs.declared.value.Value.{Value}
 use Rattle.js_heap.specs.Objects.{id_number, properties_in, prototype_number}
-use Rattle.js_heap.specs.Properties.{value_named}
+use Rattle.js_table.specs.Properties.{value_named}
 use Rattle.js_heap.proofs.ChainSteps.{leads_within, past, past_last}
 use Rattle.js_heap.proofs.Walks.{object_value}
 use Rattle.js_heap.proofs.objects.value_along.Goals as goal

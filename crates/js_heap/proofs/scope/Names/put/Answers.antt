@@ -1,7 +1,7 @@
 use Rattle.std.proofs.Common.{ap, true}
 use Rattle.js_heap.specs.Names.{bindings}
 use Rattle.js_heap.proofs.Bindings.{with_binding-bindings}
-use Rattle.js_heap.proofs.Places.{on_ok_map}
+use Rattle.js_table.proofs.Places.{on_ok_map}
 use Rattle.js_heap.proofs.scope.Names.put.Goals as goal
 
 pub returns-clause-ok : goal.returns-clause-ok

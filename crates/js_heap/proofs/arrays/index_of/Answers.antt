@@ -1,8 +1,0 @@
-use Rattle.js_heap.proofs.ElementLemmas.{index_given, index_small}
-use Rattle.js_heap.proofs.arrays.index_of.Goals as goal
-
-pub returns-clause-index : goal.returns-clause-index
-returns-clause-index c = index_given c.args.name.now c.index_of_key.result c.index_of_key.ensures
-
-pub returns-clause-small : goal.returns-clause-small
-returns-clause-small c = index_small c.args.name.now c.index_of_key.result c.index_of_key.ensures

@@ -1,0 +1,10 @@
+use Rattle.std.proofs.Common.{decimal}
+use Rattle.js_heap.proofs.Closing.{kept-put}
+use Rattle.js_heap.proofs.heap.Heap.put_at.Goals as goal
+
+pub invariant_of-self : goal.invariant_of-self
+invariant_of-self c = (
+  kept-put c.put_element.result c.self.inside.objects.items c.put_element.new.objects.items c.self.inside.scopes.items c.args.self.now c.args.obj.number (decimal c.args.index) c.args.value c.args.listed
+      c.self.view_is c.self.invariant.0 c.requires.value c.put_element.ensures.ok c.put_element.ensures.err,
+  c.self.invariant.1,
+)

@@ -1,0 +1,3 @@
+pub mod ElementLemmas
+pub mod ListingLemmas
+pub mod Places

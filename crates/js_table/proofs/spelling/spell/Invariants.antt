@@ -1,0 +1,6 @@
+-- The digits before are written.
+use Rattle.std.proofs.Common.{◌≡◌, take}
+use Rattle.js_table.proofs.spelling.spell.Given as goal
+
+abbrev pub invariant-loop-i : goal.invariant-loop-i
+invariant-loop-i l = take l.i l.units ≡ take l.i l.digits

@@ -1,0 +1,4 @@
+pub mod Indices
+pub mod Listing
+pub mod Properties
+pub mod inner
