@@ -1,0 +1,7 @@
+pub mod Lasting
+pub mod Lists
+pub mod Moves
+pub mod Numbers
+pub mod Plain
+pub mod Shown
+pub mod There

@@ -1,0 +1,11 @@
+pub mod Asking
+pub mod Gives
+pub mod Images
+pub mod Keeps
+pub mod Names
+pub mod Natives
+pub mod Numbers
+pub mod Rows
+pub mod Shown
+pub mod Tests
+pub mod There
