@@ -66,10 +66,10 @@ module _ {R H : Type 0} (F : Facts R H) (T : Table R H) (L : TableKeeps F T) whe
   rest-cases w true m a = L.undefined w
   rest-cases w false m a = page-has w m (a refl)
 
-  rest-has : (c : Context) (w : World) (h : H) (r : R) (vs : List Value) (o : Option Entry) → T.enters w h r vs ≡ o
+  rest-has : (c : Context) (w : World) (h : H) (r : R) (vs : List Value) (o : Option Entry) → T.enters c w h r vs ≡ o
       → F.context w c → F.host w h → F.row w r → Values w vs → Comes w (at_rest T c w h r vs o)
   rest-has c w h r vs None e d a q b = rest-cases w (T.no_step r) (T.make c w h r vs) (λ f. L.make c w h r vs f e d a q b)
-  rest-has c w h r vs (Some n) e d a q b = (L.same w, a, (q, L.entry w h r vs n e b))
+  rest-has c w h r vs (Some n) e d a q b = (L.same w, a, (q, L.entry c w h r vs n e b))
 
   ready-has : (w : World) (h : H) (f : Hidden) (r : R) (vs : List Value) (o : Option (Left H)) → T.before w h f r vs ≡ o
       → F.host w h → F.row w r → Values w vs → Comes w (at_ready T w h f r vs o)
@@ -107,6 +107,10 @@ module _ {R H : Type 0} (F : Facts R H) (T : Table R H) (L : TableKeeps F T) whe
       (d.0, d.1, node-has w' r (after done (Cons u ts)) (L.row w w' r d.0 q) (after-has w' done (Cons u ts) (each-later w w' done d.0 b) (d.2, terms-later w w' ts d.0 g)))
   operand-has c w h r done ts (Questions n) x a q b g d rest = tt
 
+  either-has : (w : World) (b : Bool) (m o : Contraction R H) → Comes w m → Comes w o → Comes w (cond b m o)
+  either-has w true m o a z = a
+  either-has w false m o a z = z
+
   mutual
     unfolding contract
 
@@ -121,7 +125,7 @@ module _ {R H : Type 0} (F : Facts R H) (T : Table R H) (L : TableKeeps F T) whe
 
     pub first-has : (c : Context) (w : World) (h : H) (r : R) (done : List Value) (ts : Terms R)
         → F.context w c → F.host w h → F.row w r → Values w done → AllHave w ts → Comes w (first T c w h r done ts)
-    first-has c w h r done Nil x a q b g = rest-has c w h r done (T.enters w h r done) refl x a q b
+    first-has c w h r done Nil x a q b g = rest-has c w h r done (T.enters c w h r done) refl x a q b
     first-has c w h r done (Cons t ts) x a q b g =
-        operand-has c w h r done ts (contract T (T.inner r c) w h t) x a q b g.1 (contract-has (T.inner r c) w h t (L.inner w r c q x) a g.0)
-        (λ v d. first-has c w h r (done ++ v ∷ []) ts x a q (each-snoc w done v b d) g.1)
+        either-has w (T.is_early r done) _ _ (page-has w (T.early c w h r done (Cons t ts)) (L.early c w h r done (Cons t ts) x a q b g)) (operand-has c w h r done ts (contract T (T.inner r c) w h t) x a q b g.1 (contract-has (T.inner r c) w h t (L.inner w r c q x) a g.0)
+        (λ v d. first-has c w h r (done ++ v ∷ []) ts x a q (each-snoc w done v b d) g.1))

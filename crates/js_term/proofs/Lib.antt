@@ -1,3 +1,4 @@
+pub mod Dues
 pub mod Keeping
 pub mod Moves
 pub mod Readings

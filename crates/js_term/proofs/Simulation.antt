@@ -59,8 +59,8 @@ module _ {R H : Type 0} (T P : Table R H) (I : Images R H) (L : TablesCommute T 
   first-values : (c : Context) (w : World) (h : H) (r : R) (done : List Value) (ts : Terms R) → P.no_step r ≡ true → are_values ts ≡ true
       → first P c w h r done ts ≡ Ends Undefined
   unfolding contract
-  first-values c w h r done Nil e f = rw (L.plain_enters w h r done, e) refl
-  first-values c w h r done (Cons (Val v) ts) e f = first-values c w h r (done ++ v ∷ []) ts e f
+  first-values c w h r done Nil e f = rw (L.plain_enters c w h r done, e) refl
+  first-values c w h r done (Cons (Val v) ts) e f = rw (L.late r done e) (first-values c w h r (done ++ v ∷ []) ts e f)
   first-values c w h r done ts e f = cc
 
   contract-written : (c : Context) (w : World) (h : H) (b d : Bool) (r : R) (ts : Terms R) → P.no_step r ≡ b → are_values ts ≡ d
@@ -94,7 +94,7 @@ module _ {R H : Type 0} (T P : Table R H) (I : Images R H) (L : TablesCommute T 
       → Agrees T P I p (pw w) (I.host h) (cond b (Ends Undefined) (page_step m)) (cond d (Ends Undefined) (page_step n))
   open_agrees p w h m n b d e f g = rw (e, f) (row_agrees p w h m n g)
 
-  rest_agrees : (c : Context) (w : World) (h : H) (r : R) (done : List Value) (o : Option Entry) (b : Bool) → T.enters w h r done ≡ o → T.no_step r ≡ b
+  rest_agrees : (c : Context) (w : World) (h : H) (r : R) (done : List Value) (o : Option Entry) (b : Bool) → T.enters c w h r done ≡ o → T.no_step r ≡ b
       → agrees (Node r (after done Nil)) w h (at_rest T c w h r done o) (at_rest P (plain_context c) (pw w) (I.host h) (I.row r) (map image done) None)
   rest_agrees c w h r done None true e f =
       finished_agrees _ w h _ _ (T.no_step r) (P.no_step (I.row r)) f (L.no_step r ∙ f) (pd_finished r done f)
@@ -102,7 +102,7 @@ module _ {R H : Type 0} (T P : Table R H) (I : Images R H) (L : TablesCommute T 
       open_agrees _ w h (T.make c w h r done) (P.make (plain_context c) (pw w) (I.host h) (I.row r) (map image done)) (T.no_step r) (P.no_step (I.row r))
       f (L.no_step r ∙ f) (L.make c w h r done f e)
   rest_agrees c w h r done (Some n) b e f =
-      Hides (Ready (start n.function) r n.values) w h _ (ap (λ vs. node P.no_step (I.row r) (after vs Nil)) (L.entry w h r done n e) ∙ sym (ap (node P.no_step (I.row r)) (plains-after done Nil))) refl refl
+      Hides (Ready (start n.function) r n.values) w h _ (ap (λ vs. node P.no_step (I.row r) (after vs Nil)) (L.entry c w h r done n e) ∙ sym (ap (node P.no_step (I.row r)) (plains-after done Nil))) refl refl
 
   ready_held : (f g : Hidden) (r : R) (vs : List Value) → pd (Hold f (node T.no_step r (after vs Nil))) ≡ pd (Ready g r vs)
   ready_held f g r vs = plain-node r (after vs Nil) ∙ ap (node P.no_step (I.row r)) (plains-after vs Nil)
@@ -158,6 +158,13 @@ module _ {R H : Type 0} (T P : Table R H) (I : Images R H) (L : TablesCommute T 
       Hides (node T.no_step r (after done (Cons u ts))) v k _ (plain-node r (after done (Cons u ts)) ∙ ap (node P.no_step (I.row r)) (plains-after done (Cons u ts) ∙ (ap (λ x. after (map image done) (Cons x (pds ts))) e ∙ sym (plains-after done (Cons t ts))))) f g
   operand_agrees c w h r done t ts o q (Same n) rest = Same n
 
+  -- the same of two on both sides gives one of both
+  either_agrees : (p : Term R) (w : World) (h : H) (m o n q : Contraction R H) (b d : Bool) → d ≡ b
+      → Agrees T P I p (pw w) (I.host h) m n → Agrees T P I p (pw w) (I.host h) o q
+      → Agrees T P I p (pw w) (I.host h) (cond b m o) (cond d n q)
+  either_agrees p w h m o n q true d e a z = rw e a
+  either_agrees p w h m o n q false d e a z = rw e z
+
   -- what a term comes to has the image that its image comes to, and a hidden step leaves the image as it was
   mutual
     unfolding contract
@@ -172,8 +179,10 @@ module _ {R H : Type 0} (T P : Table R H) (I : Images R H) (L : TablesCommute T 
 
     pub simulation_first : (c : Context) (w : World) (h : H) (r : R) (done : List Value) (ts : Terms R)
         → agrees (Node r (after done ts)) w h (first T c w h r done ts) (first P (plain_context c) (pw w) (I.host h) (I.row r) (map image done) (pds ts))
-    simulation_first c w h r done Nil = rw (L.plain_enters (pw w) (I.host h) (I.row r) (map image done)) (rest_agrees c w h r done (T.enters w h r done) (T.no_step r) refl refl)
+    simulation_first c w h r done Nil = rw (L.plain_enters (plain_context c) (pw w) (I.host h) (I.row r) (map image done)) (rest_agrees c w h r done (T.enters c w h r done) (T.no_step r) refl refl)
     simulation_first c w h r done (Cons t ts) =
-        operand_agrees c w h r done t ts (contract T (T.inner r c) w h t) (contract P (P.inner (I.row r) (plain_context c)) (pw w) (I.host h) (pd t))
+        either_agrees _ w h (page_step (T.early c w h r done (Cons t ts))) _ _ _ (T.is_early r done) (P.is_early (I.row r) (map image done)) (L.is_early r done)
+        (row_agrees _ w h (T.early c w h r done (Cons t ts)) (P.early (plain_context c) (pw w) (I.host h) (I.row r) (map image done) (pds (Cons t ts))) (sym (sym (L.early c w h r done (Cons t ts)))))
+        (operand_agrees c w h r done t ts (contract T (T.inner r c) w h t) (contract P (P.inner (I.row r) (plain_context c)) (pw w) (I.host h) (pd t))
         (subst (λ z. agrees t w h (contract T (T.inner r c) w h t) (contract P z (pw w) (I.host h) (pd t))) (sym (L.inner r c)) (simulation (T.inner r c) w h t))
-        (λ v. simulation_first c w h r (done ++ v ∷ []) ts)
+        (λ v. simulation_first c w h r (done ++ v ∷ []) ts))

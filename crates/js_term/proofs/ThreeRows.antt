@@ -39,11 +39,14 @@ pub three_rows-commute : TablesCommute three_rows three_rows same_images
 three_rows-commute = record {
   no_step = λ r. refl;
   inner = λ r c. refl;
+  is_early = λ r vs. refl;
+  early = λ c w h r vs ts. refl;
+  late = λ r vs e. refl;
   make = λ c w h r vs s e. ap (λ v. Gives (Val v) w (suc h)) (last_behind-image Undefined vs);
   meets = λ c w h r k. met-plain w h r k;
-  free = λ w h r vs e. refl;
-  plain_enters = λ w h r vs. refl;
-  entry = λ w h r vs e f. cc;
+  free = λ c w h r vs e. refl;
+  plain_enters = λ c w h r vs. refl;
+  entry = λ c w h r vs e f. cc;
   before = λ w h f r vs l e. cc;
   behind = λ h k f stopped e. cc;
 }

@@ -1,5 +1,5 @@
 -- One contraction. What is due is the first subterm that isn't a value, from the root, in the order of operands: a completion, a node whose
--- operands are values, or a hidden form.
+-- operands are values or whose first ones call for an early step, or a hidden form.
 use Rattle.std.specs.Prelude.{List, [], ◌∷◌, ◌++◌, Bool, true, false, Option, Some, None, cond}
 use Rattle.js_value.specs.declared.value.Value.TheVariants.{Undefined}
 use Rattle.js_value.specs.declared.value.Value.{Value}
@@ -70,10 +70,10 @@ module _ {R H : Type 0} (T : Table R H) where
     contract c w h (Hook f t) = at_hook w h f t (T.behind h f false)
 
     pub first : Context → World → H → R → List Value → Terms R → Contraction R H
-    first c w h r done Nil = at_rest c w h r done (T.enters w h r done)
-    first c w h r done (Cons t ts) = elim (contract (T.inner r c) w h t) [
+    first c w h r done Nil = at_rest c w h r done (T.enters c w h r done)
+    first c w h r done (Cons t ts) = cond (T.is_early r done) (page_step (T.early c w h r done (Cons t ts))) (elim (contract (T.inner r c) w h t) [
       | Ends v ↦ first c w h r (done ++ v ∷ []) ts
       | Stops k ↦ page_step (T.meets c w h r k)
       | Steps hidden u w' h' ↦ within r done ts (Steps hidden u w' h')
       | Questions q ↦ Questions q
-    ]
+    ])

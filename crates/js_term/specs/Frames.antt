@@ -1,5 +1,5 @@
 -- Stacks of frames, what term a stack stands for, and the moves on it that cost nothing.
-use Rattle.std.specs.Prelude.{List, [], ◌∷◌, Bool, true, false}
+use Rattle.std.specs.Prelude.{List, [], ◌∷◌, ◌++◌, ◌≡◌, Bool, true, false, not, ◌&&◌}
 use Rattle.js_value.specs.declared.value.Value.{Value}
 use Rattle.js_term.specs.declared.context.Context.{Context}
 use Rattle.js_term.specs.Term.{Hidden, Term, after, node, terms}
@@ -48,6 +48,20 @@ frame_context T (Applying f) c = c
 abbrev pub context_at : {R X H : Type 0} → Table R H → List (Frame R X) → Context → Context
 context_at T [] c = c
 context_at T (f ∷ fs) c = context_at T fs (frame_context T f c)
+
+-- behind these values no early step was due before these others were evaluated
+abbrev pub passes : {R : Type 0} → (R → List Value → Bool) → R → List Value → List Value → Bool
+passes is_early r done [] = true
+passes is_early r done (v ∷ vs) = not (is_early r done) && passes is_early r (done ++ v ∷ []) vs
+
+-- a frame waits for an operand that its row evaluates, and has no early step
+abbrev pub IsSettled : {R X H : Type 0} → Table R H → Frame R X → Type 0
+IsSettled T (Waiting r done todo) = (passes T.is_early r [] done ≡ true) × (T.is_early r done ≡ false)
+IsSettled T (Applying f) = Unit {0}
+
+abbrev pub AreSettled : {R X H : Type 0} → Table R H → List (Frame R X) → Type 0
+AreSettled T [] = Unit {0}
+AreSettled T (f ∷ fs) = IsSettled T f × AreSettled T fs
 
 -- a step or a question, in a larger term
 abbrev pub carried : {R H : Type 0} → (Term R → Term R) → Contraction R H → Contraction R H

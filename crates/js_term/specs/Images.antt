@@ -41,18 +41,22 @@ module _ {R H : Type 0} (T P : Table R H) (I : Images R H) where
   plain_step (Gives t w h) = Gives (plain t) (I.world w) (I.host h)
   plain_step (Asks q) = Asks q
 
-  -- What the tables owe: each row commutes with the images, a row without a step enters nothing, the plain table enters nothing, and hidden
-  -- statements change no image.
+  -- What the tables owe: each row commutes with the images, a row without a step has no early one and enters nothing, the plain table enters
+  -- nothing, and hidden statements change no image.
   pub record TablesCommute : Type 0 where
     pub no_step : (r : R) → P.no_step (I.row r) ≡ T.no_step r
     pub inner : (r : R) (c : Context) → P.inner (I.row r) (plain_context c) ≡ plain_context (T.inner r c)
-    pub make : (c : Context) (w : World) (h : H) (r : R) (vs : List Value) → T.no_step r ≡ false → T.enters w h r vs ≡ None
+    pub make : (c : Context) (w : World) (h : H) (r : R) (vs : List Value) → T.no_step r ≡ false → T.enters c w h r vs ≡ None
         → P.make (plain_context c) (I.world w) (I.host h) (I.row r) (map image vs) ≡ plain_step (T.make c w h r vs)
+    pub is_early : (r : R) (vs : List Value) → P.is_early (I.row r) (map image vs) ≡ T.is_early r vs
+    pub early : (c : Context) (w : World) (h : H) (r : R) (vs : List Value) (ts : Terms R)
+        → P.early (plain_context c) (I.world w) (I.host h) (I.row r) (map image vs) (plains ts) ≡ plain_step (T.early c w h r vs ts)
     pub meets : (c : Context) (w : World) (h : H) (r : R) (k : Completion)
         → P.meets (plain_context c) (I.world w) (I.host h) (I.row r) (plain_completion k) ≡ plain_step (T.meets c w h r k)
-    pub free : (w : World) (h : H) (r : R) (vs : List Value) → T.no_step r ≡ true → T.enters w h r vs ≡ None
-    pub plain_enters : (w : World) (h : H) (r : R) (vs : List Value) → P.enters w h r vs ≡ None
-    pub entry : (w : World) (h : H) (r : R) (vs : List Value) (e : Entry) → T.enters w h r vs ≡ Some e → map image e.values ≡ map image vs
+    pub late : (r : R) (vs : List Value) → P.no_step r ≡ true → P.is_early r vs ≡ false
+    pub free : (c : Context) (w : World) (h : H) (r : R) (vs : List Value) → T.no_step r ≡ true → T.enters c w h r vs ≡ None
+    pub plain_enters : (c : Context) (w : World) (h : H) (r : R) (vs : List Value) → P.enters c w h r vs ≡ None
+    pub entry : (c : Context) (w : World) (h : H) (r : R) (vs : List Value) (e : Entry) → T.enters c w h r vs ≡ Some e → map image e.values ≡ map image vs
     pub before : (w : World) (h : H) (f : Hidden) (r : R) (vs : List Value) (l : Left H) → T.before w h f r vs ≡ Some l
         → (map image l.values ≡ map image vs) × (I.host l.host ≡ I.host h)
     pub behind : (h k : H) (f : Hidden) (stopped : Bool) → T.behind h f stopped ≡ Some k → I.host k ≡ I.host h

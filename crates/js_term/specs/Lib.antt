@@ -1,5 +1,7 @@
+pub mod Calls
 pub mod Completions
 pub mod Contraction
+pub mod Due
 pub mod Frames
 pub mod Images
 pub mod Invariants

@@ -12,7 +12,7 @@ use Rattle.js_tree.specs.Trees.{Tree}
 use Rattle.js_tree.specs.Trees.Tree.{Made}
 use Rattle.js_term.specs.Place.{Place}
 use Rattle.js_term.specs.Place.Place.{At}
-use Rattle.js_term.specs.Operands.{literal, operands, term_of, total, weight}
+use Rattle.js_term.specs.Operands.{Labels, literal, operands, term_of, total, weight}
 
 -- a stack, and what stands at its top
 pub record Stack (R X : Type 0) : Type 0 where
@@ -68,20 +68,20 @@ module _ {R X : Type 0} (S : Syntax R X) where
       pub same : (r : R) (x : X) → focus_term no_step S.term (S.begins r x) ≡ S.term r x
       pub lighter : (r : R) (x : X) → focus_weight (S.begins r x) < 1 + S.weight x
 
--- trees as operands to come, where `text` gives the text of a row
-module _ {R : Type 0} (row : Place → Production → Tree → R) where
+-- trees as operands to come, where `text` gives the text of a row and `labels` the labels that stand directly around its operands
+module _ {R : Type 0} (row : Labels → Place → Production → Tree → R) where
   -- a node begins as its value, where it is a literal, or with none of its operands begun
-  abbrev pub begun : (text unit : ℕ) → Production → Tree → Option Value → Focus R Tree
-  begun x u p ts (Some v) = Alone (Val v)
-  begun x u p ts None = Resting (row (At x u) p ts) [] (operands p ts)
+  abbrev pub begun : (text unit : ℕ) → Labels → Production → Tree → Option Value → Focus R Tree
+  begun x u ls p ts (Some v) = Alone (Val v)
+  begun x u ls p ts None = Resting (row ls (At x u) p ts) [] (operands p ts)
 
-  abbrev pub begun_tree : (text : ℕ) → Tree → Focus R Tree
-  begun_tree x (Made p u v ts) = begun x u p ts (literal p ts)
-  begun_tree x t = Alone (Val Undefined)
+  abbrev pub begun_tree : (text : ℕ) → Labels → Tree → Focus R Tree
+  begun_tree x ls (Made p u v ts) = begun x u ls p ts (literal p ts)
+  begun_tree x ls t = Alone (Val Undefined)
 
-abbrev pub tree_syntax : {R : Type 0} → (R → Bool) → (Place → Production → Tree → R) → (R → ℕ) → Syntax R Tree
-tree_syntax no_step row text = record {
-  term = λ r t. term_of no_step row (text r) t;
-  begins = λ r t. begun_tree row (text r) t;
+abbrev pub tree_syntax : {R : Type 0} → (R → Bool) → (Labels → Place → Production → Tree → R) → (text : R → ℕ) → (labels : R → Labels) → Syntax R Tree
+tree_syntax no_step row text labels = record {
+  term = λ r t. term_of no_step row (text r) (labels r) t;
+  begins = λ r t. begun_tree row (text r) (labels r) t;
   weight = weight;
 }

@@ -10,6 +10,7 @@ use Rattle.js_value.specs.declared.value.Value.TheVariants as value
 use Rattle.js_tree.specs.declared.production.Production.{Production}
 use Rattle.js_tree.specs.declared.production.Production.TheVariants as production
 use Rattle.js_tree.specs.declared.production.UnaryOperator.TheVariants.{Delete, TypeOf}
+use Rattle.js_tree.specs.Runs.{labels_before}
 use Rattle.js_tree.specs.Trees.{Tree}
 use Rattle.js_tree.specs.Trees.Tree.{Made, Word, Missing}
 use Rattle.js_term.specs.Place.{Place}
@@ -69,6 +70,8 @@ operands production.And (Tree.Cons a ts) = a ∷ []
 operands production.Or (Tree.Cons a ts) = a ∷ []
 operands production.Conditional (Tree.Cons a ts) = a ∷ []
 operands (production.Assign None) (Tree.Cons (Made production.Name u v rest) (Tree.Cons e ts)) = e ∷ []
+operands (production.Assign None) (Tree.Cons (Made production.Member u v (Tree.Cons b rest)) (Tree.Cons e ts)) = b ∷ e ∷ []
+operands (production.Assign None) (Tree.Cons (Made production.Index u v (Tree.Cons b (Tree.Cons k rest))) (Tree.Cons e ts)) = b ∷ k ∷ e ∷ []
 operands (production.Assign o) (Tree.Cons a ts) = target_operands a
 operands production.Comma (Tree.Cons a ts) = a ∷ []
 operands production.Block (Tree.Cons ss ts) = listed ss
@@ -97,21 +100,26 @@ abbrev pub total : {X : Type 0} → (X → ℕ) → List X → ℕ
 total f [] = 0
 total f (x ∷ xs) = f x + total f xs
 
-module _ {R : Type 0} (no_step : R → Bool) (row : Place → Production → Tree → R) where
-  -- a node's term: its value where it is a literal, else its row over its operands' terms
-  abbrev pub made : (Tree → Term R) → Place → Production → Tree → Option Value → Term R
-  made f a p ts (Some v) = Val v
-  made f a p ts None = node no_step (row a p ts) (terms f (operands p ts))
+-- the labels that stand directly around a statement (12.12), the inner one first
+abbrev pub Labels : Type 0
+Labels = List (List ℕ)
 
-  abbrev pub opened : (Tree → Term R) → (text : ℕ) → Tree → Term R
-  opened f x (Made p u v ts) = made f (At x u) p ts (literal p ts)
-  opened f x t = Val value.Undefined
+module _ {R : Type 0} (no_step : R → Bool) (row : Labels → Place → Production → Tree → R) where
+  -- a node's term: its value where it is a literal, else its row over its operands' terms
+  abbrev pub made : (Labels → Tree → Term R) → Labels → Place → Production → Tree → Option Value → Term R
+  made f ls a p ts (Some v) = Val v
+  made f ls a p ts None = node no_step (row ls a p ts) (terms (f (labels_before p ts ls)) (operands p ts))
+
+  abbrev pub opened : (Labels → Tree → Term R) → Labels → (text : ℕ) → Tree → Term R
+  opened f ls x (Made p u v ts) = made f ls (At x u) p ts (literal p ts)
+  opened f ls x t = Val value.Undefined
 
   -- the term of a tree of which so many levels are looked at
-  abbrev pub term_to : ℕ → (text : ℕ) → Tree → Term R
-  term_to zero x t = Val value.Undefined
-  term_to (suc n) x t = opened (term_to n x) x t
+  abbrev pub term_to : ℕ → (text : ℕ) → Labels → Tree → Term R
+  term_to zero x ls t = Val value.Undefined
+  term_to (suc n) x ls t = opened (term_to n x) ls x t
 
-  -- the term of a tree of a text, by the text's number; an operand stands in its tree, so that the tree's weight is levels enough
-  unfoldable pub term_of : (text : ℕ) → Tree → Term R
-  term_of x t = term_to (weight t) x t
+  -- the term of a tree of a text, by the text's number, with these labels around it; an operand stands in its tree, so that the tree's weight is
+  -- levels enough
+  unfoldable pub term_of : (text : ℕ) → Labels → Tree → Term R
+  term_of x ls t = term_to (weight t) x ls t

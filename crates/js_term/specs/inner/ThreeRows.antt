@@ -34,9 +34,11 @@ abbrev pub three_rows : Table Row ℕ
 three_rows = record {
   no_step = is_statements;
   inner = λ r c. c;
+  is_early = λ r vs. false;
+  early = λ c w h r vs ts. Gives (Val Undefined) w h;
   make = λ c w h r vs. Gives (Val (last_behind Undefined vs)) w (suc h);
   meets = λ c w h r k. met w h r k;
-  enters = λ w h r vs. None;
+  enters = λ c w h r vs. None;
   before = λ w h f r vs. None;
   behind = λ h f stopped. None;
 }
