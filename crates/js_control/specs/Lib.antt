@@ -1,0 +1,15 @@
+pub mod Rows
+pub mod Setting
+pub mod Steps
+pub mod Conversions
+pub mod Literals
+pub mod Accesses
+pub mod Calls
+pub mod Operations
+pub mod Operators
+pub mod Assignments
+pub mod Updates
+pub mod Choices
+pub mod Handlers
+pub mod Syntax
+pub mod Make

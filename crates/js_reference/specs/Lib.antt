@@ -1,0 +1,10 @@
+pub mod Room
+pub mod Errors
+pub mod Functions
+pub mod Own
+pub mod Callables
+pub mod Properties
+pub mod Puts
+pub mod Deletes
+pub mod Names
+pub mod Keys

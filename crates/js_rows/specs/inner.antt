@@ -1,0 +1,3 @@
+pub mod SmallHost
+pub mod Scripts
+pub mod Counts

@@ -1,0 +1,147 @@
+-- A call of a page's function (ECMA-262 edition 5.1, 10.4.3, 10.5, 10.6, 13.2.1, 13.2.2): its objects, its scope, and its body. The objects are made in
+-- this order: that of `new`, the declared functions, `arguments`.
+use Rattle.std.specs.Prelude.{ℕ, suc, ◌+◌, ◌*◌, Bool, true, false, ◌&&◌, List, [], ◌∷◌, Option, Some, None, codes, decimal, length, pos, if◌then◌else◌}
+use Rattle.std.specs.Option.{option_and_then, option_map_or}
+use Rattle.js_value.specs.declared.number.Num.TheVariants.{Whole}
+use Rattle.js_value.specs.declared.value.ObjId.{ObjId}
+use Rattle.js_value.specs.declared.value.Value.{Value}
+use Rattle.js_value.specs.declared.value.Value.TheVariants as value
+use Rattle.js_ops.specs.Convert.{is_missing}
+use Rattle.js_heap.specs.Objects.{with_object}
+use Rattle.js_heap.specs.Puts.{put}
+use Rattle.js_heap.specs.Scopes.{declare, with_scope}
+use Rattle.js_heap.specs.World.{World}
+use Rattle.js_heap.specs.declared.class.Class.TheVariants as class
+use Rattle.js_heap.specs.declared.class.Code.{Code}
+use Rattle.js_heap.specs.declared.class.ScopeId.{ScopeId}
+use Rattle.js_heap.specs.declared.root.Root.TheVariants as root
+use Rattle.js_reference.specs.Callables.{as_object, native_of}
+use Rattle.js_reference.specs.Errors.{next_object, root_object}
+use Rattle.js_reference.specs.Errors.ErrorName.{RangeError}
+use Rattle.js_reference.specs.Functions.{objects_of_function, with_function}
+use Rattle.js_reference.specs.Properties.{property}
+use Rattle.js_reference.specs.Puts.{window}
+use Rattle.js_reference.specs.Room.{objects_fit, scopes_fit}
+use Rattle.js_term.specs.Operands.{listed}
+use Rattle.js_term.specs.Place.Place.{At}
+use Rattle.js_term.specs.Table.{Step}
+use Rattle.js_tree.specs.Names.{arguments, call_scope}
+use Rattle.js_tree.specs.declared.node.Declared.{Declared}
+use Rattle.js_tree.specs.declared.node.Scope.{Scope}
+use Rattle.js_tree.specs.declared.production.Production.TheVariants as production
+use Rattle.js_tree.specs.Trees.{Tree}
+use Rattle.js_tree.specs.Trees.Tree.{Made, Word}
+use Rattle.js_stmt.specs.Rows.StmtRow.{Body}
+use Rattle.js_stmt.specs.Setting.{Setting}
+use Rattle.js_stmt.specs.Steps.{enters, throws}
+
+-- what a function is made of: its own name, where it is a named function expression, its parameters, and the statements of its body
+pub record Function : Type 0 where
+  pub own : Option (List ℕ)
+  pub parameters : List (List ℕ)
+  pub statements : Tree
+
+abbrev pub word_in : Tree → Option (List ℕ)
+word_in (Word x) = Some x
+word_in t = None
+
+abbrev pub words_in : Tree → List (List ℕ)
+words_in (Tree.Cons (Word x) ts) = x ∷ words_in ts
+words_in t = []
+
+abbrev pub statements_in : (body : Tree) → Tree
+statements_in (Made production.Body u v (Tree.Cons ss r)) = ss
+statements_in t = Tree.Nil
+
+-- a handler's text is the body of a function of `event`
+abbrev pub function_in : Tree → Function
+function_in (Made production.Function u v (Tree.Cons x (Tree.Cons xs (Tree.Cons b r)))) = record { own = word_in x; parameters = words_in xs; statements = statements_in b }
+function_in (Made production.Declaration u v (Tree.Cons x (Tree.Cons xs (Tree.Cons b r)))) = record { own = None; parameters = words_in xs; statements = statements_in b }
+function_in (Made production.Handler u v (Tree.Cons ss r)) = record { own = None; parameters = codes "event" ∷ []; statements = ss }
+function_in t = record { own = None; parameters = []; statements = Tree.Nil }
+
+-- the names of its scope
+abbrev pub scope_of : Function → Scope
+scope_of f = call_scope f.parameters f.own f.statements
+
+-- each name is there from the start, and undefined (10.5, step 8)
+abbrev pub with_names : ScopeId → List (List ℕ) → World → World
+with_names s [] w = w
+with_names s (x ∷ xs) w = with_names s xs (declare w s x value.Undefined)
+
+-- the parameters are the arguments, and a later one of a name counts (10.5, step 4)
+abbrev pub with_parameters : ScopeId → List (List ℕ) → (arguments : List Value) → World → World
+with_parameters s [] vs w = w
+with_parameters s (x ∷ xs) [] w = with_parameters s xs [] (declare w s x value.Undefined)
+with_parameters s (x ∷ xs) (v ∷ vs) w = with_parameters s xs vs (declare w s x v)
+
+-- the declared functions, of which a later one of a name counts (10.5, step 5)
+abbrev pub with_functions : (text : ℕ) → ScopeId → List Declared → World → World
+with_functions x s [] w = w
+with_functions x s (d ∷ ds) w =
+    with_functions x s ds (declare (with_function w (record { text = x; node = d.at; scope = Some s })) s d.name (value.Ref (next_object w)))
+
+-- the arguments at their indices, from one on, and then their number (10.6)
+abbrev pub with_indices : ObjId → ℕ → List Value → World → World
+with_indices o i [] w = put w o (codes "length") (value.Num (Whole (pos i))) false
+with_indices o i (v ∷ vs) w = with_indices o (suc i) vs (put w o (decimal i) v true)
+
+abbrev pub with_arguments_object : List Value → World → World
+with_arguments_object vs w = with_indices (next_object w) 0 vs (with_object w class.Arguments (Some (root_object root.ObjectPrototype)))
+
+-- 10.5, step 7
+abbrev pub with_arguments : Bool → ScopeId → List Value → World → World
+with_arguments true s vs w = declare (with_arguments_object vs w) s arguments (value.Ref (next_object w))
+with_arguments false s vs w = w
+
+-- the function's own name means the function (13)
+abbrev pub with_own_name : Bool → ScopeId → Option (List ℕ) → (callee : Value) → World → World
+with_own_name true s (Some x) v w = declare w s x v
+with_own_name b s x v w = w
+
+-- the world with the scope of a call in it
+abbrev pub with_call_scope : Code → Function → (callee : Value) → (arguments : List Value) → ScopeId → World → World
+with_call_scope code f callee vs s w =
+    with_own_name (scope_of f).has_own_name s f.own callee
+    (with_arguments (scope_of f).has_arguments s vs
+    (with_functions code.text s (scope_of f).functions
+    (with_parameters s f.parameters vs
+    (with_names s (scope_of f).names
+    (with_scope w code.scope)))))
+
+abbrev one_if : Bool → ℕ
+one_if true = 1
+one_if false = 0
+
+-- how many objects a call makes
+abbrev pub objects_of_call : Function → (construct : Bool) → ℕ
+objects_of_call f construct = one_if construct + (objects_of_function * length (scope_of f).functions + one_if (scope_of f).has_arguments)
+
+-- undefined and null are the window (10.4.3); other values that are no objects stay as they are
+abbrev pub this_of : Value → Value
+this_of v = if is_missing v then value.Ref window else v
+
+module _ {R H : Type 0} (S : Setting R H) (w : World) (h : H) where
+  -- the prototype of what `new` makes: the function's `prototype`, where that is an object and no native function that asks (13.2.2)
+  abbrev pub prototype_or : Option ObjId → ObjId
+  prototype_or (Some o) = if option_map_or S.asks (native_of w (value.Ref o)) false then root_object root.ObjectPrototype else o
+  prototype_or None = root_object root.ObjectPrototype
+
+  abbrev pub prototype_by : (callee : Value) → ObjId
+  prototype_by f = prototype_or (option_and_then as_object (property S.own w h f (codes "prototype")))
+
+  -- into the body, in the world in which `new` has made its object
+  abbrev pub into_body : Code → Function → (callee this : Value) → (made : Option Value) → List Value → World → Step R H
+  into_body code f callee this made vs v =
+      let s : ScopeId = record { number = length w.scopes } in
+      enters S (At code.text code.node) (with_call_scope code f callee vs s v) h (Body (record { text = code.text; scope = Some s; this = this }) made) []
+      (listed f.statements)
+
+  -- a call of a function, or a `new` of it
+  abbrev pub call_function : Code → Function → (callee : Value) → (construct : Bool) → (this : Value) → List Value → Step R H
+  call_function code f callee construct this vs =
+      if objects_fit w (objects_of_call f construct) && scopes_fit w 1
+      then (if construct
+      then into_body code f callee (value.Ref (next_object w)) (Some (value.Ref (next_object w))) vs (with_object w class.Object (Some (prototype_by callee)))
+      else into_body code f callee (this_of this) None vs w)
+      else throws RangeError w h

@@ -1,0 +1,14 @@
+pub mod Rows
+pub mod Setting
+pub mod Steps
+pub mod Variables
+pub mod Loops
+pub mod ForIn
+pub mod Jumps
+pub mod Switches
+pub mod Tries
+pub mod Bodies
+pub mod Calls
+pub mod Programs
+pub mod Syntax
+pub mod Make
