@@ -1,0 +1,15 @@
+// What is printed for a line.
+use crate::{requests, timers};
+use mug_text::NoMemory;
+use std::alloc::Global;
+
+/// What the calls of a line answer, and what is left behind them.
+pub fn answer_of(alloc: Global, line: &str) -> Result<String, NoMemory> {
+    if let Some(calls) = line.strip_prefix("timers ") {
+        return timers::left(alloc, calls);
+    }
+    if let Some(calls) = line.strip_prefix("requests ") {
+        return requests::left(alloc, calls);
+    }
+    Ok(String::from_str(alloc, "no timers or requests")?)
+}

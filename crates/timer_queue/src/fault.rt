@@ -1,0 +1,39 @@
+// Why there is no new timer.
+ghost use Rattle.std.specs.Prelude.{◌≡◌};
+
+use mug_text::NoMemory;
+use std::alloc::AllocError;
+use thiserror::Error;
+
+/// The numbers that timers are given: at most so many, from 1 on.
+pub const TIMER_LIMIT: u32 = 0xFFFF_FFFE;
+
+/// Why there is no new timer.
+#[derive(Clone, Copy, Debug, PartialEq, Eq, Error)]
+pub enum TimerFault {
+    /// `TIMER_LIMIT` numbers were given.
+    #[error("timers full")]
+    Full,
+    #[error("out of memory")]
+    NoMemory,
+}
+
+impl From<NoMemory> for TimerFault {
+    ghost use Rattle.timer_queue.specs.declared.fault.TimerFault.TheVariants.{NoMemory as no_memory};
+
+    ghost from_gives = { λ _ fault. fault ≡ no_memory };
+
+    fn from(_error: NoMemory) -> TimerFault {
+        TimerFault::NoMemory
+    }
+}
+
+impl From<AllocError> for TimerFault {
+    ghost use Rattle.timer_queue.specs.declared.fault.TimerFault.TheVariants.{NoMemory as no_memory};
+
+    ghost from_gives = { λ _ fault. fault ≡ no_memory };
+
+    fn from(_error: AllocError) -> TimerFault {
+        TimerFault::NoMemory
+    }
+}
