@@ -1,4 +1,4 @@
--- A recording that is given the inputs of a page one after another, and told of the end of each turn.
+-- From one input of a page to the next, of a recording that is given them one after another.
 use Rattle.std.specs.Prelude.{All}
 use Rattle.std.proofs.Common.{◌≡◌, true, false, List, [], ◌∷◌, ◌++◌, drop, map, refl, sym, ◌∙◌, ap, subst, append_assoc}
 use Rattle.std.proofs.lemmas.List.{append-nil, map-append}
@@ -12,14 +12,7 @@ use Rattle.input_log.specs.declared.item.LogItem.{LogItem}
 use Rattle.capture_engine.specs.Frames.{AreFrames, AreFramesOf}
 use Rattle.capture_engine.specs.Outside.{Shown}
 use Rattle.capture_engine.specs.Recording.{Recorded, RecorderState, ended}
-
--- of all inputs these are left; the others were logged: the turns that are over, and of the turn that runs these
-pub record Logging (start now : Shown) (head : LogItem) (all left : List PageInput) (r : RecorderState) : Type 0 where
-  pub over : List (List LogItem)
-  pub turn : List PageInput
-  pub so_far : Recorded start now head over (logged turn) r
-  pub answers : All (λ i. begins_turn i ≡ false) (drop 1 turn)
-  pub is : map logged (page_turns all) ≡ over ++ map logged (page_turns (turn ++ left))
+use Rattle.capture_engine.specs.inner.Logging.{Logging}
 
 -- nothing is logged yet
 pub logging_start : {start now : Shown} {head : LogItem} {r : RecorderState} (all : List PageInput) → Recorded start now head [] [] r → Logging start now head all all r

@@ -18,7 +18,7 @@ use Rattle.session_store.specs.Keeping.{StoreState, file, session}
 use Rattle.session_store.proofs.Frames.{opened-push}
 use Rattle.capture_engine.specs.Acks.{ack_line, acks, acks_from, text_of_lines}
 use Rattle.capture_engine.specs.inner.Grouping.{ends_before, frames_after, grouped, kept_before, open_after}
-use Rattle.capture_engine.specs.inner.Steps.{StopsAt}
+use Rattle.capture_engine.specs.inner.Steps.{IsSameFault, StopsAt}
 use Rattle.session_store.specs.declared.keeper.Ack.{Ack}
 use Rattle.session_store.specs.declared.keeper.StoreFault.{StoreFault}
 use Rattle.session_store.specs.declared.keeper.StoreFault.TheVariants as store_fault
@@ -26,7 +26,7 @@ use Rattle.session_store.specs.declared.keeper.TheConstants.{MOMENT_END, SESSION
 use Rattle.capture_engine.specs.Outside.{IsEarly, Shown, seen}
 use Rattle.capture_engine.specs.Recording.{Committed, Halted, Holds, RecorderState, Starved, Unchanged, Unmade, ended, inputs_in}
 use Rattle.capture_engine.specs.declared.recorder.CaptureFault.{CaptureFault}
-use Rattle.capture_engine.specs.declared.recorder.CaptureFault.TheVariants.{Store, WriteFault, NoMemory}
+use Rattle.capture_engine.specs.declared.recorder.CaptureFault.TheVariants.{NotEmpty, Full, DiskFault, WriteFault, NoMemory}
 
 -- ---- numbers of inputs
 
@@ -164,29 +164,31 @@ module _ {start now : Shown} {frames : List (List LogItem)} {current : List LogI
 
   -- the store refused the commit
   module _ (held : Option (List ℕ)) (moment disk : ℕ) where
-    pub commit_stops : (fault : StoreFault)
-        → (IsErrOf (refused fault) store_fault.Full → SESSION_LIMIT < r.store.place + 5 + length payload)
-        → (SESSION_LIMIT < r.store.place + 5 + length payload → r.store.stopped ≡ false → IsErrOf (refused fault) store_fault.Full)
-        → (IsErrOf (refused fault) store_fault.Stopped → r.store.stopped ≡ true)
-        → (IsErrOf (refused fault) store_fault.DiskFault → Rose now.disk disk)
-        → (IsErrOf (refused fault) store_fault.DiskFault → now.moment + 4 < MOMENT_END → (now.moment < moment) × (moment ≤ now.moment + 4))
-        → (IsErrOf (refused fault) store_fault.NotEmpty → ⊥)
-        → (IsErrOf (refused fault) store_fault.DiskFault ⊎ ((held ≡ now.held) × (moment ≡ now.moment)))
-        → StopsAt (Store fault) start (seen held moment now.taken disk now.out) frames current
-    commit_stops store_fault.Full full fits stopped rose time not_empty (inl other) = absurd (cc)
-    commit_stops store_fault.Full full fits stopped rose time not_empty (inr same) =
-        record { holds = same_holds held moment disk same.0 same.1; passes = omega (arith, full refl, so_far.place, ap length payload_is) }
-    commit_stops store_fault.NoMemory full fits stopped rose time not_empty (inl other) = absurd (cc)
-    commit_stops store_fault.NoMemory full fits stopped rose time not_empty (inr same) = same_holds held moment disk same.0 same.1
-    commit_stops store_fault.Stopped full fits stopped rose time not_empty nothing = let e = stopped refl in let f = so_far.running in absurd (cc)
-    commit_stops store_fault.NotEmpty full fits stopped rose time not_empty nothing = absurd (not_empty refl)
-    commit_stops store_fault.DiskFault full fits stopped rose time not_empty nothing = record {
-      rose = rose_later start.disk now.disk disk so_far.disk_later (rose refl);
-      fits = next_fits (fits_in (refused store_fault.DiskFault) fits (λ e. cc));
-      printed = so_far.holds.printed;
-      after = λ at. let were = so_far.holds.time at in let since = time refl (early at) in omega arith;
-      before = λ at. let were = so_far.holds.time at in let since = time refl (early at) in omega arith;
-    }
+    pub commit_stops : (refusal : StoreFault) (fault : CaptureFault) → IsSameFault refusal fault
+        → (IsErrOf (refused refusal) store_fault.Full → SESSION_LIMIT < r.store.place + 5 + length payload)
+        → (SESSION_LIMIT < r.store.place + 5 + length payload → r.store.stopped ≡ false → IsErrOf (refused refusal) store_fault.Full)
+        → (IsErrOf (refused refusal) store_fault.DiskFault → Rose now.disk disk)
+        → (IsErrOf (refused refusal) store_fault.DiskFault → now.moment + 4 < MOMENT_END → (now.moment < moment) × (moment ≤ now.moment + 4))
+        → (IsErrOf (refused refusal) store_fault.NotEmpty → ⊥)
+        → (IsErrOf (refused refusal) store_fault.DiskFault ⊎ ((held ≡ now.held) × (moment ≡ now.moment)))
+        → StopsAt fault start (seen held moment now.taken disk now.out) frames current
+    commit_stops store_fault.Full fault is_fault full fits rose time not_empty (inl other) = absurd (cc)
+    commit_stops store_fault.Full fault is_fault full fits rose time not_empty (inr same) =
+        subst (λ (f : CaptureFault). StopsAt f start (seen held moment now.taken disk now.out) frames current) (sym is_fault)
+        (record { holds = same_holds held moment disk same.0 same.1; passes = omega (arith, full refl, so_far.place, ap length payload_is) })
+    commit_stops store_fault.NoMemory fault is_fault full fits rose time not_empty (inl other) = absurd (cc)
+    commit_stops store_fault.NoMemory fault is_fault full fits rose time not_empty (inr same) =
+        subst (λ (f : CaptureFault). StopsAt f start (seen held moment now.taken disk now.out) frames current) (sym is_fault) (same_holds held moment disk same.0 same.1)
+    commit_stops store_fault.Stopped fault is_fault full fits rose time not_empty nothing = absurd is_fault
+    commit_stops store_fault.NotEmpty fault is_fault full fits rose time not_empty nothing = absurd (not_empty refl)
+    commit_stops store_fault.DiskFault fault is_fault full fits rose time not_empty nothing =
+        subst (λ (f : CaptureFault). StopsAt f start (seen held moment now.taken disk now.out) frames current) (sym is_fault) (record {
+          rose = rose_later start.disk now.disk disk so_far.disk_later (rose refl);
+          fits = next_fits (fits_in (refused store_fault.DiskFault) fits (λ e. cc));
+          printed = so_far.holds.printed;
+          after = λ at. let were = so_far.holds.time at in let since = time refl (early at) in omega arith;
+          before = λ at. let were = so_far.holds.time at in let since = time refl (early at) in omega arith;
+        })
 
   file_next : (held : Option (List ℕ))
       → ((frames : List (List LogItem)) (items : List LogItem) (gate : ℕ) (rest : List ℕ) → r.store.place ≡ place_after frames → payload ≡ payload_of items → now.held ≡ Some (session frames gate rest)
@@ -262,11 +264,9 @@ turns_over {start} {now} {r} frames current item ends before =
 
 -- the commit of this frame halted the recording
 pub halted_at : (fault : CaptureFault) (start now : Shown) (frames others all : List (List LogItem)) (group : List LogItem) → all ≡ frames ++ group ∷ others → StopsAt fault start now frames group → Halted fault start now all
-halted_at (Store store_fault.Full) start now frames others all group is stops = record { frames = frames; group = group; others = others; is = is; stops = stops }
-halted_at (Store store_fault.DiskFault) start now frames others all group is stops = record { frames = frames; group = group; others = others; is = is; stops = stops }
-halted_at (Store store_fault.NoMemory) start now frames others all group is stops = record { frames = frames; others = group ∷ others; is = is; holds = stops }
-halted_at (Store store_fault.NotEmpty) start now frames others all group is stops = stops
-halted_at (Store store_fault.Stopped) start now frames others all group is stops = stops
+halted_at NotEmpty start now frames others all group is stops = stops
+halted_at Full start now frames others all group is stops = record { frames = frames; group = group; others = others; is = is; stops = stops }
+halted_at DiskFault start now frames others all group is stops = record { frames = frames; group = group; others = others; is = is; stops = stops }
 halted_at WriteFault start now frames others all group is stops = record { frames = frames; group = group; others = others; is = is; stops = stops }
 halted_at NoMemory start now frames others all group is stops = record { frames = frames; others = group ∷ others; is = is; holds = stops }
 
@@ -309,13 +309,15 @@ pub from_start : (start now : Shown) → Unchanged start now → (P : Shown → 
 from_start start now same P holds = subst P (λ i. seen (same.held i) (same.moment i) (same.taken i) start.disk start.out) holds
 
 -- the store was not made
-pub unmade : (start now : Shown) (fault : StoreFault) → now.taken ≡ start.taken
-    → (fault ≡ store_fault.NotEmpty → IfSome start.held (λ b. 0 < length b) × (now.held ≡ start.held) × (now.moment ≡ start.moment))
-    → (fault ≡ store_fault.DiskFault → Rose start.disk now.disk)
-    → (fault ≡ store_fault.DiskFault → start.moment + 2 < MOMENT_END → (start.moment ≤ now.moment) × (now.moment ≤ start.moment + 2))
-    → (fault ≡ store_fault.Full → ⊥) → (fault ≡ store_fault.Stopped → ⊥) → (fault ≡ store_fault.NoMemory → ⊥) → Unmade (Store fault) start now
-unmade start now store_fault.NotEmpty still some rose time full stopped starved = let there = some refl in (there.0, there.1, there.2, still)
-unmade start now store_fault.DiskFault still some rose time full stopped starved = (rose refl, still, λ early. time refl (omega arith))
-unmade start now store_fault.Full still some rose time full stopped starved = absurd (full refl)
-unmade start now store_fault.Stopped still some rose time full stopped starved = absurd (stopped refl)
-unmade start now store_fault.NoMemory still some rose time full stopped starved = absurd (starved refl)
+pub unmade : (start now : Shown) (refusal : StoreFault) (fault : CaptureFault) → IsSameFault refusal fault → now.taken ≡ start.taken
+    → (refusal ≡ store_fault.NotEmpty → IfSome start.held (λ b. 0 < length b) × (now.held ≡ start.held) × (now.moment ≡ start.moment))
+    → (refusal ≡ store_fault.DiskFault → Rose start.disk now.disk)
+    → (refusal ≡ store_fault.DiskFault → start.moment + 2 < MOMENT_END → (start.moment ≤ now.moment) × (now.moment ≤ start.moment + 2))
+    → (refusal ≡ store_fault.Full → ⊥) → (refusal ≡ store_fault.NoMemory → ⊥) → Unmade fault start now
+unmade start now store_fault.NotEmpty fault is_fault still some rose time full starved =
+    let there = some refl in subst (λ (f : CaptureFault). Unmade f start now) (sym is_fault) (there.0, there.1, there.2, still)
+unmade start now store_fault.DiskFault fault is_fault still some rose time full starved =
+    subst (λ (f : CaptureFault). Unmade f start now) (sym is_fault) (rose refl, still, λ early. time refl (omega arith))
+unmade start now store_fault.Full fault is_fault still some rose time full starved = absurd (full refl)
+unmade start now store_fault.Stopped fault is_fault still some rose time full starved = absurd is_fault
+unmade start now store_fault.NoMemory fault is_fault still some rose time full starved = absurd (starved refl)

@@ -22,7 +22,8 @@ abbrev pub acks_below : ℕ → ℕ → ℕ → List (List LogItem) → List (Li
 acks_below below n m [] = []
 acks_below below n m (f ∷ frames) =
     if nat_lt (m + 4) below
-    then ack_line (n + count_by is_input f) (m + 4) ∷ acks_below below (n + count_by is_input f) (m + 4) frames
+    then ack_line (n + count_by is_input f) (m + 4)
+    ∷ acks_below below (n + count_by is_input f) (m + 4) frames
     else []
 
 -- the bytes of lines, one after another

@@ -16,7 +16,8 @@ IsRun items = (items ≢ []) × ((length (payload_of items) ≤ PAYLOAD_LIMIT) �
 -- the run stands in front of the rest, and no longer one does
 pub record IsLongestRun (run rest : List LogItem) : Type 0 where
   pub is_run : IsRun run
-  pub longest : (more others : List LogItem) → rest ≡ more ++ others → IsRun (run ++ more) → more ≡ []
+  pub longest : (more others : List LogItem) → rest ≡ more ++ others → IsRun (run ++ more)
+      → more ≡ []
 
 -- the runs of a turn's items: each is the longest at its place, and the last ends with the turn
 abbrev pub AreRuns : List LogItem → List (List LogItem) → Type 0
@@ -31,7 +32,8 @@ AreTurnsRuns (turn ∷ turns) runs =
     (first : List (List LogItem)) × (others : List (List LogItem)) × (runs ≡ first ++ others)
     × AreRuns turn first × AreTurnsRuns turns others
 
--- the frames of a session with this head, and with these items turn by turn: the head alone, and then the runs
+-- the frames of a session with this head, and with these items turn by turn: the head alone, and
+-- then the runs
 pub record AreFrames (head : LogItem) (turns frames : List (List LogItem)) : Type 0 where
   pub runs : List (List LogItem)
   pub are_runs : AreTurnsRuns turns runs

@@ -1,2 +1,3 @@
 pub mod Grouping
+pub mod Logging
 pub mod Steps

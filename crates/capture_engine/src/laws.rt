@@ -6,7 +6,8 @@ ghost use Rattle.input_log.specs.declared.item.LogItem.{LogItem};
 ghost use Rattle.session_store.specs.Session.{items_of};
 ghost use Rattle.capture_engine.specs.Frames.{AreFramesOf};
 
-/// A head and inputs have frames, and no others, whose items in a row are the head and those of the inputs.
+/// A head and inputs have frames, and no others, whose items in a row are the head and those of the
+/// inputs.
 pub fn frames_are_one()
     ensures some { (head : LogItem) (inputs : List PageInput)
         → (frames : List (List LogItem)) × AreFramesOf head inputs frames }

@@ -1,4 +1,5 @@
-//! The pushing side of a recording: items go into frames, frames to the disk, and a line is written for each.
+//! The pushing side of a recording: items go into frames, frames to the disk, and a line is written
+//! for each.
 #![tactic(auto)]
 
 mod laws;

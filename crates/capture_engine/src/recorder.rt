@@ -1,14 +1,14 @@
 // Puts items into frames, commits the frames, and says so.
-ghost use Rattle.std.specs.Prelude.{◌≡◌, ◌≤◌, ℕ, List, [], Option, IfErr, IfOk, OnOk};
+ghost use Rattle.std.specs.Prelude.{◌≡◌, ◌≢◌, ◌≤◌, ℕ, List, [], Option, IfErr, IfOk, OnOk};
 ghost use Rattle.input_log.specs.Items.{IsItem};
 ghost use Rattle.input_log.specs.declared.item.LogItem.{LogItem};
-ghost use Rattle.session_store.specs.Keeping.{IsInside, IsSame};
+ghost use Rattle.session_store.specs.Keeping.{IsSame};
 ghost use Rattle.session_store.specs.Session.{payload_of};
 ghost use Rattle.capture_engine.specs.Acks.{ack_line};
 ghost use Rattle.capture_engine.specs.Outside.{seen, shown};
-ghost use Rattle.capture_engine.specs.Recording.{Committed, EndHalts, EndsTurn, LogHalts, Logs, StartHalts, Starts, Unmade};
+ghost use Rattle.capture_engine.specs.Recording.{Committed, EndHalts, EndsTurn, IsRunning, LogHalts, Logs, StartHalts, Starts, Unmade};
 ghost use Rattle.capture_engine.specs.inner.Grouping.{ends_before};
-ghost use Rattle.capture_engine.specs.inner.Steps.{CommitStops, Commits, MakesRoom, Puts, RoomStops};
+ghost use Rattle.capture_engine.specs.inner.Steps.{CommitStops, Commits, IsSameFault, MakesRoom, Puts, RoomStops};
 
 use crate::Line;
 use input_log::{LogItem, encode, encoded_len};
@@ -29,9 +29,15 @@ pub const EARLY_MOMENT: u64 = 1 << 63;
 /// Why a recording stopped.
 #[derive(Clone, Copy, Debug, PartialEq, Eq, Error)]
 pub enum CaptureFault {
-    /// The store refused a call.
-    #[error("{0}")]
-    Store(StoreFault),
+    /// The disk has bytes already: no session was made.
+    #[error("session is not empty")]
+    NotEmpty,
+    /// The next frame would pass the limit of a session.
+    #[error("session is full")]
+    Full,
+    /// The disk failed.
+    #[error("disk fault")]
+    DiskFault,
     /// The output failed.
     #[error("write fault")]
     WriteFault,
@@ -49,16 +55,6 @@ impl From<NoMemory> for CaptureFault {
     }
 }
 
-impl From<StoreFault> for CaptureFault {
-    ghost use Rattle.capture_engine.specs.declared.recorder.CaptureFault.TheVariants.{Store as of_store};
-
-    ghost from_gives = { λ error fault. fault ≡ of_store error };
-
-    fn from(error: StoreFault) -> CaptureFault {
-        CaptureFault::Store(error)
-    }
-}
-
 impl From<WriteFault> for CaptureFault {
     ghost use Rattle.capture_engine.specs.declared.recorder.CaptureFault.TheVariants.{WriteFault as write_fault};
 
@@ -69,7 +65,21 @@ impl From<WriteFault> for CaptureFault {
     }
 }
 
-/// A session that is being written, and its open frame.
+// The same fault of a recording: the store of one that goes on isn't stopped.
+fn of_store(fault: StoreFault) -> CaptureFault
+    requires { fault ≢ StoreFault.Stopped }
+    ensures { IsSameFault fault result }
+{
+    match fault {
+        StoreFault::NotEmpty => CaptureFault::NotEmpty,
+        StoreFault::Full => CaptureFault::Full,
+        StoreFault::DiskFault => CaptureFault::DiskFault,
+        StoreFault::NoMemory => CaptureFault::NoMemory,
+        StoreFault::Stopped => unreachable!(),
+    }
+}
+
+/// A session that is being written, and its open frame. After a call that failed no other is made.
 #[derive(Drop)]
 pub struct Recorder {
     store: Store,
@@ -101,7 +111,8 @@ fn ack_line(ack: Ack) -> Line
     line
 }
 
-// A recording to a store without frames, whose commits of up to `PAYLOAD_LIMIT` bytes take no memory.
+// A recording to a store without frames, whose commits of up to `PAYLOAD_LIMIT` bytes take no
+// memory.
 fn over(alloc: Global, store: Store) -> Result<Recorder, NoMemory>
     ensures same { IfOk result (λ recorder. IsSame store recorder.store) }
     ensures none { IfOk result (λ recorder. (recorder.payload ≡ []) × (recorder.inputs ≡ 0)) }
@@ -122,19 +133,23 @@ fn create<D: Disk>(alloc: Global, disk: &mut D) -> Result<Recorder, CaptureFault
         → Committed (seen (D.held disk.old) (D.moment disk.old) taken faults out)
         (seen (D.held disk.new) (D.moment disk.new) taken (D.faults disk.new) out')
         [] [] recorder) }
-    ensures inside { IfOk result (λ recorder. IsInside recorder.store (D.held disk.new)) }
+    ensures running { IfOk result (λ recorder. IsRunning recorder (D.held disk.new)) }
     ensures unmade { IfErr result (λ fault. (taken : Option (List ℕ)) (faults out out' : ℕ)
         → faults ≤ D.faults disk.old
         → Unmade fault (seen (D.held disk.old) (D.moment disk.old) taken faults out)
         (seen (D.held disk.new) (D.moment disk.new) taken (D.faults disk.new) out')) }
 {
-    let store = Store::create(alloc, disk)?;
+    let store = match Store::create(alloc, disk) {
+        Ok(store) => store,
+        Err(fault) => return Err(of_store(fault)),
+    };
     let recorder = over(alloc, store)?;
     Ok(recorder)
 }
 
 impl Recorder {
-    /// Creates a session on an empty disk, commits its head alone and writes the line of that frame.
+    /// Creates a session on an empty disk, commits its head alone and writes the line of that
+    /// frame.
     pub fn start<D: Disk, O: Sink>(
         alloc: Global,
         head: &LogItem,
@@ -145,7 +160,7 @@ impl Recorder {
         ensures started { IfOk result (λ recorder. Starts head.now
             (shown D.Disk O.Sink disk.old out.old) (shown D.Disk O.Sink disk.new out.new)
             recorder) }
-        ensures inside { IfOk result (λ recorder. IsInside recorder.store (D.held disk.new)) }
+        ensures running { IfOk result (λ recorder. IsRunning recorder (D.held disk.new)) }
         ensures halted { IfErr result (λ fault. StartHalts head.now fault
             (shown D.Disk O.Sink disk.old out.old) (shown D.Disk O.Sink disk.new out.new)) }
     {
@@ -180,18 +195,21 @@ impl Recorder {
 
     // Commits the open frame, where it has items, and writes its line.
     fn flush<D: Disk, O: Sink>(&mut self, disk: &mut D, out: &mut O) -> Result<(), CaptureFault>
-        requires { IsInside self.old.store (D.held disk.old) }
+        requires { IsRunning self.old (D.held disk.old) }
         ensures commits { OnOk result (Commits (shown D.Disk O.Sink disk.old out.old)
             (shown D.Disk O.Sink disk.new out.new) self.old self.new) }
         ensures stops { IfErr result (λ fault. CommitStops fault
             (shown D.Disk O.Sink disk.old out.old) (shown D.Disk O.Sink disk.new out.new)
             self.old) }
-        ensures inside { OnOk result (IsInside self.new.store (D.held disk.new)) }
+        ensures running { OnOk result (IsRunning self.new (D.held disk.new)) }
     {
         if self.payload.is_empty() {
             return Ok(());
         }
-        let ack = self.store.commit(disk, &self.payload, self.inputs)?;
+        let ack = match self.store.commit(disk, &self.payload, self.inputs) {
+            Ok(ack) => ack,
+            Err(fault) => return Err(of_store(fault)),
+        };
         self.payload.clear();
         self.inputs = 0;
         ack_line(ack).write(out)?;
@@ -205,14 +223,14 @@ impl Recorder {
         out: &mut O,
         item: &LogItem,
     ) -> Result<(), CaptureFault>
-        requires inside { IsInside self.old.store (D.held disk.old) }
+        requires running { IsRunning self.old (D.held disk.old) }
         requires valid { IsItem item.now }
         ensures makes { OnOk result (MakesRoom item.now (shown D.Disk O.Sink disk.old out.old)
             (shown D.Disk O.Sink disk.new out.new) self.old self.new) }
         ensures stops { IfErr result (λ fault. RoomStops item.now fault
             (shown D.Disk O.Sink disk.old out.old) (shown D.Disk O.Sink disk.new out.new)
             self.old) }
-        ensures inside { OnOk result (IsInside self.new.store (D.held disk.new)) }
+        ensures running { OnOk result (IsRunning self.new (D.held disk.new)) }
     {
         if !self.ends_before(item) {
             return Ok(());
@@ -221,40 +239,42 @@ impl Recorder {
         Ok(())
     }
 
-    /// Logs an item in the turn that runs; the open frame is committed first where it ends before the item.
+    /// Logs an item in the turn that runs; the open frame is committed first where it ends before
+    /// the item.
     pub fn log<D: Disk, O: Sink>(
         &mut self,
         disk: &mut D,
         out: &mut O,
         item: &LogItem,
     ) -> Result<(), CaptureFault>
-        requires inside { IsInside self.old.store (D.held disk.old) }
+        requires running { IsRunning self.old (D.held disk.old) }
         requires valid { IsItem item.now }
         ensures logs { OnOk result (Logs item.now (shown D.Disk O.Sink disk.old out.old)
             (shown D.Disk O.Sink disk.new out.new) self.old self.new) }
         ensures halts { IfErr result (λ fault. LogHalts item.now fault
             (shown D.Disk O.Sink disk.old out.old) (shown D.Disk O.Sink disk.new out.new)
             self.old) }
-        ensures inside { OnOk result (IsInside self.new.store (D.held disk.new)) }
+        ensures running { OnOk result (IsRunning self.new (D.held disk.new)) }
     {
         self.make_room(disk, out, item)?;
         self.put(item)?;
         Ok(())
     }
 
-    /// Ends the turn that runs, or what there is of it where the run is over: commits the open frame, where it has items, and writes its line.
+    /// Ends the turn that runs, or what there is of it where the run is over: commits the open
+    /// frame, where it has items, and writes its line.
     pub fn end_turn<D: Disk, O: Sink>(
         &mut self,
         disk: &mut D,
         out: &mut O,
     ) -> Result<(), CaptureFault>
-        requires { IsInside self.old.store (D.held disk.old) }
+        requires { IsRunning self.old (D.held disk.old) }
         ensures ends { OnOk result (EndsTurn (shown D.Disk O.Sink disk.old out.old)
             (shown D.Disk O.Sink disk.new out.new) self.old self.new) }
         ensures halts { IfErr result (λ fault. EndHalts fault
             (shown D.Disk O.Sink disk.old out.old) (shown D.Disk O.Sink disk.new out.new)
             self.old) }
-        ensures inside { OnOk result (IsInside self.new.store (D.held disk.new)) }
+        ensures running { OnOk result (IsRunning self.new (D.held disk.new)) }
     {
         self.flush(disk, out)?;
         Ok(())

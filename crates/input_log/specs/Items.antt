@@ -26,7 +26,8 @@ pub record IsBaseText (base : List ℕ) : Type 0 where
   pub sized : length (utf8_of base) < 2 ^ 32
 
 -- the fields are in their ranges: moments and readings are whole numbers of the language,
--- budgets at least 1 and within the limit, random words of 32 bits, pages within the limit of a head
+-- budgets at least 1 and within the limit, random words of 32 bits, pages within the limit of a
+-- head
 abbrev pub IsItem : LogItem → Type 0
 IsItem (Head base budget page) =
     IsBaseText base × (1 ≤ budget) × (budget ≤ STEPS_LIMIT) × (length page ≤ HEAD_PAGE_LIMIT)

@@ -83,7 +83,8 @@ fn head_at(alloc: Global, bytes: &[u8]) -> Result<Option<(LogItem, usize)>, NoMe
     Ok(Some((LogItem::Head { base, budget, page }, size)))
 }
 
-/// The item that the bytes begin with and the number of its bytes, or none where they begin with no item.
+/// The item that the bytes begin with and the number of its bytes, or none where they begin with no
+/// item.
 pub fn decode(alloc: Global, bytes: &[u8]) -> Result<Option<(LogItem, usize)>, NoMemory>
     ensures { IfOk result (λ found. MatchOption found (BeginsWithNone bytes.now)
         (λ pair. BeginsWith bytes.now pair.0 pair.1)) }

@@ -1,5 +1,6 @@
--- Frames of a session file. In front of each frame stands a gate of one byte, which is open exactly if it is 1; a frame is the length of its payload, in four bytes
--- with the highest first, the payload, and the next gate.
+-- Frames of a session file. In front of each frame stands a gate of one byte, which is open exactly
+-- if it is 1; a frame is the length of its payload, in four bytes with the highest first, the
+-- payload, and the next gate.
 use Rattle.std.specs.Prelude.{◌≡◌, ◌≢◌, ℕ, ◌<◌, ◌^◌, List, [], ◌∷◌, ◌++◌, length}
 use Rattle.std.specs.Int.{to_be_bytes, w32}
 
@@ -7,7 +8,8 @@ use Rattle.std.specs.Int.{to_be_bytes, w32}
 abbrev pub frame : List ℕ → List ℕ
 frame payload = to_be_bytes w32 (length payload) ++ payload
 
--- from a gate on: it is open, a whole frame of this payload stands behind it, and then the rest, from the next gate on
+-- from a gate on: it is open, a whole frame of this payload stands behind it, and then the rest,
+-- from the next gate on
 pub record OpensFrame (bytes payload rest : List ℕ) : Type 0 where
   pub sized : length payload < 2 ^ 32
   pub gate : rest ≢ []

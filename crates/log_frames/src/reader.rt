@@ -41,7 +41,8 @@ pub enum FrameFault {
 
 // The length that stands behind an open gate.
 fn size_at(front: &[u8]) -> Option<u32>
-    ensures { MatchOption result ((size : ℕ) → SaysSize front.now size → ⊥) (λ size. SaysSize front.now size) }
+    ensures { MatchOption result ((size : ℕ) → SaysSize front.now size → ⊥)
+        (λ size. SaysSize front.now size) }
 {
     match front {
         [gate, a, b, c, d] if *gate == 1 => Some(u32::from_be_bytes([*a, *b, *c, *d])),
@@ -64,14 +65,18 @@ impl FrameReader {
         self.at
     }
 
-    /// Reads the payload of the frame behind the gate, if that is open and whole, and goes on to the next gate.
-    /// The payload's buffer is not made longer than the file.
+    /// Reads the payload of the frame behind the gate, if that is open and whole, and goes on to
+    /// the next gate. The payload's buffer is not made longer than the file.
     pub fn next<D: Disk>(&mut self, disk: &mut D, payload: &mut Vec<u8>) -> Result<Next, FrameFault>
-        ensures told { IfOk result (λ next. IfSome (D.held disk.old) (λ held. NextTells next (drop self.old held) payload.new.items (drop self.new held))) }
-        ensures place { IfOk result (λ next. NextAt next self.old self.new (length payload.new.items)) }
-        ensures short { IfSome (D.held disk.old) (λ held. length payload.new.items ≤ max (length payload.old.items) (length held)) }
+        ensures told { IfOk result (λ next. IfSome (D.held disk.old) (λ held.
+            NextTells next (drop self.old held) payload.new.items (drop self.new held))) }
+        ensures place { IfOk result (λ next.
+            NextAt next self.old self.new (length payload.new.items)) }
+        ensures short { IfSome (D.held disk.old) (λ held.
+            length payload.new.items ≤ max (length payload.old.items) (length held)) }
         ensures kept { OnErr result (self.new ≡ self.old) }
-        ensures fault { IsErrOf result FrameFault.ReadFault → Rose (D.faults disk.old) (D.faults disk.new) }
+        ensures fault { IsErrOf result FrameFault.ReadFault
+            → Rose (D.faults disk.old) (D.faults disk.new) }
         ensures later { D.faults disk.old ≤ D.faults disk.new }
         ensures held { D.held disk.new ≡ D.held disk.old }
         ensures moment { D.moment disk.new ≡ D.moment disk.old }

@@ -5,7 +5,8 @@ use Rattle.std.specs.Prelude.{◌≡◌, ℕ, ◌+◌, ◌≤◌, max, List, ◌
 abbrev pub over : ℕ → List ℕ → List ℕ → List ℕ
 over at bytes old = take at old ++ (bytes ++ drop (at + length bytes) old)
 
--- after a write of n bytes that failed: the same outside its range; within it, and past the old end up to its end, any bytes
+-- after a write of n bytes that failed: the same outside its range; within it, and past the old end
+-- up to its end, any bytes
 pub record Torn (at n : ℕ) (old new : List ℕ) : Type 0 where
   pub before : take at new ≡ take at old
   pub after : drop (at + n) new ≡ drop (at + n) old

@@ -2,7 +2,8 @@
 use Rattle.std.specs.Prelude.{ℕ, Bool, List}
 use Rattle.mug_outside.specs.Schedule.{Schedule}
 
--- a disk in memory: its bytes, its counts, which of its writes and syncs are to fail, and which of its `len` and `read_at` calls
+-- a disk in memory: its bytes, its counts, which of its writes and syncs are to fail, and which of
+-- its `len` and `read_at` calls
 pub record DiskState : Type 0 where
   pub held : List ℕ
   pub moment : ℕ
@@ -13,7 +14,8 @@ pub record DiskState : Type 0 where
 
 -- a disk that holds these bytes, before its first call
 abbrev pub start : List ℕ → Schedule → Schedule → DiskState
-start bytes writes reads = record { held = bytes; moment = 0; faults = 0; starved = 0; writes = writes; reads = reads }
+start bytes writes reads =
+    record { held = bytes; moment = 0; faults = 0; starved = 0; writes = writes; reads = reads }
 
 -- these calls are to fail, and none was made so far
 abbrev pub listed : List ℕ → Schedule

@@ -26,7 +26,8 @@ pub trait Disk {
     /// Fills `into` from place `at` on, or as much of it as there is up to the end.
     fn read_at(&mut self, at: u64, into: &mut [u8]) -> Result<usize, Failed>
         ensures size { IfOk result (λ n. n ≤ length into.new) }
-        ensures told { IfOk result (λ n. IfSome (held self.old) (λ h. take n into.new ≡ take (length into.new) (drop at h))) }
+        ensures told { IfOk result (λ n. IfSome (held self.old) (λ h.
+            take n into.new ≡ take (length into.new) (drop at h))) }
         ensures held { held self.new ≡ held self.old }
         ensures moment { moment self.new ≡ moment self.old }
         ensures cause { HasCause (faults self.old) (faults self.new) result };
@@ -34,8 +35,10 @@ pub trait Disk {
     /// Writes `bytes` from place `at` on, which is at most the end.
     fn write_at(&mut self, at: u64, bytes: &[u8]) -> Result<(), Failed>
         requires { IfSome (held self.old) (λ h. at ≤ length h) }
-        ensures written { OnOk result (held self.new ≡ option_map (over at bytes.now) (held self.old)) }
-        ensures torn { OnErr result (Lifted (Torn at (length bytes.now)) (held self.old) (held self.new)) }
+        ensures written { OnOk result
+            (held self.new ≡ option_map (over at bytes.now) (held self.old)) }
+        ensures torn { OnErr result
+            (Lifted (Torn at (length bytes.now)) (held self.old) (held self.new)) }
         ensures moment { moment self.new ≡ counted (moment self.old) }
         ensures cause { HasCause (faults self.old) (faults self.new) result };
 

@@ -29,7 +29,14 @@ impl Model for MemDisk {
 
     ghost Value = { DiskState };
 
-    ghost view = { λ d. record { held = d.held.items; moment = d.moment; faults = d.faults; starved = d.starved; writes = d.writes; reads = d.reads } };
+    ghost view = { λ d. record {
+      held = d.held.items;
+      moment = d.moment;
+      faults = d.faults;
+      starved = d.starved;
+      writes = d.writes;
+      reads = d.reads;
+    } };
 }
 
 impl MemDisk {
@@ -110,7 +117,8 @@ impl MemDisk {
 
     // Counts a write or a sync, and tells whether it is to fail.
     fn write_fails(&mut self) -> bool
-        ensures counted { self.new ≡ record self.old { moment = counted self.old.moment; writes = next self.old.writes } }
+        ensures counted { self.new
+            ≡ record self.old { moment = counted self.old.moment; writes = next self.old.writes } }
         ensures fails { IsTrue result ↔ IsDue self.old.writes }
     {
         self.moment = self.moment.saturating_add(1);
@@ -157,7 +165,8 @@ impl Disk for MemDisk {
 
     fn read_at(&mut self, at: u64, into: &mut [u8]) -> Result<usize, Failed>
         ensures size { IfOk result (λ n. n ≤ length into.new) }
-        ensures told { IfOk result (λ n. take n into.new ≡ take (length into.new) (drop at self.old.held)) }
+        ensures told { IfOk result (λ n.
+            take n into.new ≡ take (length into.new) (drop at self.old.held)) }
         ensures held { self.new.held ≡ self.old.held }
         ensures moment { self.new.moment ≡ self.old.moment }
         ensures cause { HasCause self.old.faults self.new.faults result }
@@ -190,7 +199,8 @@ impl Disk for MemDisk {
         // It fails where it is to fail, and else where it is starved.
         ensures due { IsDue self.old.writes → IsErr result }
         ensures due_not_starved { IsDue self.old.writes → self.new.starved ≡ self.old.starved }
-        ensures starved { OnErr result (IsDue self.old.writes ⊎ (self.new.starved ≡ counted self.old.starved)) }
+        ensures starved { OnErr result
+            (IsDue self.old.writes ⊎ (self.new.starved ≡ counted self.old.starved)) }
         ensures ok_not_starved { OnOk result (self.new.starved ≡ self.old.starved) }
 
         ensures no_fault { OnOk result (self.new.faults ≡ self.old.faults) }

@@ -10,4 +10,5 @@ pub record SourceState : Type 0 where
 
 -- before the first call
 abbrev pub source_of : List ℕ → List ℕ → SourceState
-source_of bytes listed = record { left = bytes; schedule = record { listed = listed; calls = 0 }; faults = 0 }
+source_of bytes listed =
+    record { left = bytes; schedule = record { listed = listed; calls = 0 }; faults = 0 }

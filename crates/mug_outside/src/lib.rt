@@ -1,6 +1,7 @@
 //! The outside: bytes that come in, bytes that go out, and counts of what failed.
 #![tactic(auto)]
 
+mod count;
 mod failed;
 mod failing;
 mod mem_sink;
@@ -10,6 +11,7 @@ mod source;
 mod std_sink;
 mod std_source;
 
+pub use count::COUNT_END;
 pub use failed::Failed;
 pub use failing::Failing;
 pub use mem_sink::MemSink;

@@ -10,7 +10,8 @@ use mug_text::NoMemory;
 use std::alloc::Global;
 use std::marker::Model;
 
-/// Keeps what is written to it. The calls that are listed fail, and those that find no memory to grow.
+/// Keeps what is written to it. The calls that are listed fail, and those that find no memory to
+/// grow.
 #[derive(Debug, Drop)]
 pub struct MemSink {
     bytes: Vec<u8>,
@@ -24,7 +25,12 @@ impl Model for MemSink {
 
     ghost Value = { SinkState };
 
-    ghost view = { λ s. record { taken = s.bytes.items; schedule = s.failing; faults = s.faults; starved = s.starved } };
+    ghost view = { λ s. record {
+      taken = s.bytes.items;
+      schedule = s.failing;
+      faults = s.faults;
+      starved = s.starved;
+    } };
 }
 
 impl MemSink {
@@ -84,7 +90,8 @@ impl Sink for MemSink {
     fn write(&mut self, bytes: &[u8]) -> Result<usize, Failed>
         ensures size { IfOk result (λ n. n ≤ length bytes.now) }
         ensures some { IfOk result (λ n. 0 < length bytes.now → 0 < n) }
-        ensures told { IfOk result (λ n. Some self.new.taken ≡ behind (take n bytes.now) (Some self.old.taken)) }
+        ensures told { IfOk result (λ n.
+            Some self.new.taken ≡ behind (take n bytes.now) (Some self.old.taken)) }
         ensures kept { OnErr result (Some self.new.taken ≡ Some self.old.taken) }
         ensures cause { HasCause self.old.faults self.new.faults result }
 

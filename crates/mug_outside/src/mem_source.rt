@@ -25,7 +25,11 @@ impl Model for MemSource {
 
     ghost Value = { SourceState };
 
-    ghost view = { λ s. record { left = drop s.at s.bytes; schedule = s.failing; faults = s.faults } };
+    ghost view = { λ s. record {
+      left = drop s.at s.bytes;
+      schedule = s.failing;
+      faults = s.faults;
+    } };
 
     ghost invariant = { λ s. s.at ≤ length s.bytes };
 }
@@ -72,8 +76,10 @@ impl Source for MemSource {
     /// Gives as much as fits.
     fn read(&mut self, into: &mut [u8]) -> Result<usize, Failed>
         ensures size { IfOk result (λ n. n ≤ length into.new) }
-        ensures told { IfOk result (λ n. Some self.old.left ≡ ahead (take n into.new) (Some self.new.left)) }
-        ensures end { IfOk result (λ n. n ≡ 0 → 0 < length into.new → IfSome (Some self.old.left) (λ bytes. bytes ≡ [])) }
+        ensures told { IfOk result (λ n.
+            Some self.old.left ≡ ahead (take n into.new) (Some self.new.left)) }
+        ensures end { IfOk result (λ n. n ≡ 0 → 0 < length into.new
+            → IfSome (Some self.old.left) (λ bytes. bytes ≡ [])) }
         ensures kept { OnErr result (Some self.new.left ≡ Some self.old.left) }
         ensures cause { HasCause self.old.faults self.new.faults result }
 

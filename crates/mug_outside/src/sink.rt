@@ -18,7 +18,8 @@ pub trait Sink {
     fn write(&mut self, bytes: &[u8]) -> Result<usize, Failed>
         ensures size { IfOk result (λ n. n ≤ length bytes.now) }
         ensures some { IfOk result (λ n. 0 < length bytes.now → 0 < n) }
-        ensures told { IfOk result (λ n. taken self.new ≡ behind (take n bytes.now) (taken self.old)) }
+        ensures told { IfOk result (λ n.
+            taken self.new ≡ behind (take n bytes.now) (taken self.old)) }
         ensures kept { OnErr result (taken self.new ≡ taken self.old) }
         ensures cause { HasCause (faults self.old) (faults self.new) result };
 }

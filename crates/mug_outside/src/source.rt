@@ -20,7 +20,8 @@ pub trait Source {
     fn read(&mut self, into: &mut [u8]) -> Result<usize, Failed>
         ensures size { IfOk result (λ n. n ≤ length into.new) }
         ensures told { IfOk result (λ n. left self.old ≡ ahead (take n into.new) (left self.new)) }
-        ensures end { IfOk result (λ n. n ≡ 0 → 0 < length into.new → IfSome (left self.old) (λ bytes. bytes ≡ [])) }
+        ensures end { IfOk result (λ n. n ≡ 0 → 0 < length into.new
+            → IfSome (left self.old) (λ bytes. bytes ≡ [])) }
         ensures kept { OnErr result (left self.new ≡ left self.old) }
         ensures cause { HasCause (faults self.old) (faults self.new) result };
 }
@@ -42,12 +43,18 @@ const CHUNK: usize = 4096;
 
 /// All the bytes that are left, at most `limit` of them.
 pub fn read_all<S: Source>(alloc: Global, source: &mut S, limit: usize) -> Result<Bytes, ReadAll>
-    ensures ok { IfOk result (λ all. (length all ≤ limit) × (S.left source.old ≡ ahead all (S.left source.new)) × IfSome (S.left source.new) (λ bytes. bytes ≡ [])) }
-    ensures large { IsErrOf result ReadAll.TooLarge → IfSome (S.left source.old) (λ bytes. limit < length bytes) }
-    ensures fault { IsErrOf result ReadAll.ReadFault → Rose (S.faults source.old) (S.faults source.new) }
+    ensures ok { IfOk result (λ all. (length all ≤ limit)
+        × (S.left source.old ≡ ahead all (S.left source.new))
+        × IfSome (S.left source.new) (λ bytes. bytes ≡ [])) }
+    ensures large { IsErrOf result ReadAll.TooLarge
+        → IfSome (S.left source.old) (λ bytes. limit < length bytes) }
+    ensures fault { IsErrOf result ReadAll.ReadFault
+        → Rose (S.faults source.old) (S.faults source.new) }
 
-    // What was read before the fault is within the limit: bytes above it are too large, whatever would fail behind them.
-    ensures within { IsErrOf result ReadAll.ReadFault → ReadWithin limit (S.left source.old) (S.left source.new) }
+    // What was read before the fault is within the limit: bytes above it are too large, whatever
+    // would fail after them.
+    ensures within { IsErrOf result ReadAll.ReadFault
+        → ReadWithin limit (S.left source.old) (S.left source.new) }
     ensures later { S.faults source.old ≤ S.faults source.new }
 {
     let mut all = Vec::new(alloc);

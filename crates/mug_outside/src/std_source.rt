@@ -70,7 +70,8 @@ impl<R: Read + Drop> Source for StdSource<R> {
 
     ghost faults = { λ s. s.faults };
 
-    /// Fills `into`, or reads to the end of the input. What a failed call read before it failed is lost.
+    /// Fills `into`, or reads to the end of the input. What a failed call read before it failed is
+    /// lost.
     fn read(&mut self, into: &mut [u8]) -> Result<usize, Failed>
         ensures size { IfOk result (λ n. n ≤ length into.new) }
         ensures cause { HasCause self.old.faults self.new.faults result }

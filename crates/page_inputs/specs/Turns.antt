@@ -13,7 +13,11 @@ abbrev pub in_first_turn : PageInput → List (List PageInput) → List (List Pa
 in_first_turn input [] = (input ∷ []) ∷ []
 in_first_turn input (turn ∷ turns) = (input ∷ turn) ∷ turns
 
--- the inputs turn by turn: an input is the last of its turn where the turn is over after it, and else stands in the turn of the next
+-- the inputs turn by turn: an input is the last of its turn where the turn is over after it, and
+-- else stands in the turn of the next
 abbrev pub turns : List PageInput → List (List PageInput)
 turns [] = []
-turns (input ∷ inputs) = if turn_is_over inputs then (input ∷ []) ∷ turns inputs else in_first_turn input (turns inputs)
+turns (input ∷ inputs) =
+    if turn_is_over inputs
+    then (input ∷ []) ∷ turns inputs
+    else in_first_turn input (turns inputs)

@@ -34,7 +34,8 @@ IsHeadAlone items = (head : LogItem) × (items ≡ head ∷ []) × (is_head head
 abbrev pub AreLaterItems : List LogItem → Type 0
 AreLaterItems items = (items ≢ []) × All (λ item. is_head item ≡ false) items
 
--- these items may come next, in a frame after those: a head alone in the first, and none in a later one
+-- these items may come next, in a frame after those: a head alone in the first, and none in a later
+-- one
 abbrev pub MayComeNext : List (List LogItem) → List LogItem → Type 0
 MayComeNext [] items = AreItems items × IsHeadAlone items
 MayComeNext (first ∷ others) items = AreItems items × AreLaterItems items
@@ -48,13 +49,15 @@ MayGoOn before (items ∷ frames) = MayComeNext before items × MayGoOn (before 
 abbrev pub IsLog : List (List LogItem) → Type 0
 IsLog frames = MayGoOn [] frames
 
--- the rules on all items in a row: there are none, or a head and after it no head, and each is in its ranges
+-- the rules on all items in a row: there are none, or a head and after it no head, and each is in
+-- its ranges
 abbrev pub KeepsRules : List LogItem → Type 0
 KeepsRules [] = Unit {0}
 KeepsRules (head ∷ others) =
     AreItems (head ∷ others) × (is_head head ≡ true) × All (λ item. is_head item ≡ false) others
 
--- what contracts see of a session that was recovered: its items, and the offset just after its last open, whole frame
+-- what contracts see of a session that was recovered: its items, and the offset just after its last
+-- open, whole frame
 pub record SessionState : Type 0 where
   pub items : List LogItem
   pub end : ℕ

@@ -16,7 +16,8 @@ use thiserror::Error;
 /// The most bytes of a session.
 pub const SESSION_LIMIT: u64 = 4_294_967_296;
 
-/// A disk counts moments up to this. What a call adds to a moment is said where no count comes to it.
+/// A disk counts moments up to this. What a call adds to a moment is said where no count comes to
+/// it.
 pub const MOMENT_END: u64 = u64::MAX;
 
 /// A session that is being written, frame by frame.
@@ -226,7 +227,8 @@ impl Store {
         Ok(())
     }
 
-    /// Adds a frame of this payload, in which there are n inputs: the frame is written and synced before its gate is opened. After a disk fault the store is stopped.
+    /// Adds a frame of this payload, in which there are n inputs: the frame is written and synced
+    /// before its gate is opened. After a disk fault the store is stopped.
     pub fn commit<D: Disk>(
         &mut self,
         disk: &mut D,

@@ -16,7 +16,9 @@ abbrev pub grouped : List LogItem → List LogItem → List (List LogItem)
 grouped [] [] = []
 grouped (first ∷ others) [] = (first ∷ others) ∷ []
 grouped current (item ∷ items) =
-    if ends_before current item then current ∷ grouped (item ∷ []) items else grouped (current ++ item ∷ []) items
+    if ends_before current item
+    then current ∷ grouped (item ∷ []) items
+    else grouped (current ++ item ∷ []) items
 
 -- the frames of turns
 abbrev pub turns_grouped : List (List LogItem) → List (List LogItem)
@@ -26,15 +28,19 @@ turns_grouped turns = flat_map (grouped []) turns
 abbrev pub frames_of : LogItem → List (List LogItem) → List (List LogItem)
 frames_of head turns = (head ∷ []) ∷ turns_grouped turns
 
--- whatever comes after the items so far, in their turn and in others: all frames are these, and those of the open items and what comes
-abbrev pub GoesOn : LogItem → List (List LogItem) → List LogItem → List (List LogItem) → List LogItem → Type 0
+-- whatever comes after the items so far, in their turn and in others: all frames are these, and
+-- those of the open items and what comes
+abbrev pub GoesOn :
+    LogItem → List (List LogItem) → List LogItem → List (List LogItem) → List LogItem → Type 0
 GoesOn head turns turn frames current =
     (more : List LogItem) (others : List (List LogItem))
-    → frames_of head (turns ++ (turn ++ more) ∷ others) ≡ frames ++ (grouped current more ++ turns_grouped others)
+    → frames_of head (turns ++ (turn ++ more) ∷ others)
+    ≡ frames ++ (grouped current more ++ turns_grouped others)
 
 -- the frames after an item: the open one is among them where it ends before the item
 abbrev pub frames_after : List (List LogItem) → List LogItem → LogItem → List (List LogItem)
-frames_after frames current item = if ends_before current item then frames ++ current ∷ [] else frames
+frames_after frames current item =
+    if ends_before current item then frames ++ current ∷ [] else frames
 
 -- the items that stay in the open frame before an item is put into it
 abbrev pub kept_before : List LogItem → LogItem → List LogItem

@@ -1,21 +1,29 @@
 -- What the parts of a recorder's calls do with its open frame.
 use Rattle.std.specs.Prelude.{◌≡◌, ◌≢◌, true, List, [], ◌∷◌, ◌++◌}
 use Rattle.input_log.specs.declared.item.LogItem.{LogItem}
+use Rattle.session_store.specs.declared.keeper.StoreFault.{StoreFault}
 use Rattle.session_store.specs.declared.keeper.StoreFault.TheVariants as store_fault
 use Rattle.capture_engine.specs.Outside.{Shown}
 use Rattle.capture_engine.specs.Recording.{Committed, Holds, IsFaultyAt, IsFullAt, IsUnsaidAt, RecorderState, ended}
 use Rattle.capture_engine.specs.inner.Grouping.{ends_before, frames_after, kept_before}
 use Rattle.capture_engine.specs.declared.recorder.CaptureFault.{CaptureFault}
-use Rattle.capture_engine.specs.declared.recorder.CaptureFault.TheVariants.{Store, WriteFault, NoMemory}
+use Rattle.capture_engine.specs.declared.recorder.CaptureFault.TheVariants.{NotEmpty, Full, DiskFault, WriteFault, NoMemory}
 
--- by the fault: what the commit of this frame after those came to; a store that was made and didn't fail is neither stopped nor in need of an empty disk
+-- the same fault of a store and of a recording
+abbrev pub IsSameFault : StoreFault → CaptureFault → Type 0
+IsSameFault store_fault.NotEmpty fault = fault ≡ NotEmpty
+IsSameFault store_fault.Full fault = fault ≡ Full
+IsSameFault store_fault.DiskFault fault = fault ≡ DiskFault
+IsSameFault store_fault.Stopped fault = ⊥
+IsSameFault store_fault.NoMemory fault = fault ≡ NoMemory
+
+-- by the fault: what the commit of this frame after those came to
 abbrev pub StopsAt : CaptureFault → Shown → Shown → List (List LogItem) → List LogItem → Type 0
-StopsAt (Store store_fault.Full) start now frames group = IsFullAt start now frames group
-StopsAt (Store store_fault.DiskFault) start now frames group = IsFaultyAt start now frames group
-StopsAt (Store store_fault.NoMemory) start now frames group = Holds start now frames
+StopsAt NotEmpty start now frames group = ⊥
+StopsAt Full start now frames group = IsFullAt start now frames group
+StopsAt DiskFault start now frames group = IsFaultyAt start now frames group
 StopsAt WriteFault start now frames group = IsUnsaidAt start now frames group
 StopsAt NoMemory start now frames group = Holds start now frames
-StopsAt fault start now frames group = ⊥
 
 -- the item is put into the open frame
 abbrev pub Puts : LogItem → RecorderState → RecorderState → Type 0
@@ -33,7 +41,8 @@ Commits now now' r r' =
 abbrev pub CommitStops : CaptureFault → Shown → Shown → RecorderState → Type 0
 CommitStops fault now now' r =
     (start : Shown) (frames : List (List LogItem)) (current : List LogItem)
-    → Committed start now frames current r → (current ≢ []) × StopsAt fault start now' frames current
+    → Committed start now frames current r
+    → (current ≢ []) × StopsAt fault start now' frames current
 
 -- the open frame is committed where it ends before the item
 abbrev pub MakesRoom : LogItem → Shown → Shown → RecorderState → RecorderState → Type 0

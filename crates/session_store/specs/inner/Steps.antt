@@ -12,11 +12,13 @@ MayStand false items = AreLaterItems items
 -- the payload is that of items that may come next, and these are added
 abbrev pub Follows : List (List LogItem) → List ℕ → List LogItem → List LogItem → Type 0
 Follows before payload old new =
-    (items : List LogItem) × MayComeNext before items × (payload ≡ payload_of items) × (new ≡ old ++ items)
+    (items : List LogItem) × MayComeNext before items × (payload ≡ payload_of items)
+    × (new ≡ old ++ items)
 
 -- it is of no items that may
 abbrev pub FollowsNot : List (List LogItem) → List ℕ → Type 0
-FollowsNot before payload = (items : List LogItem) → MayComeNext before items → payload ≢ payload_of items
+FollowsNot before payload =
+    (items : List LogItem) → MayComeNext before items → payload ≢ payload_of items
 
 -- it is of no items at all
 abbrev pub IsNoPayload : List ℕ → Type 0

@@ -10,4 +10,5 @@ pub record SameBut (at : ℕ) (old new : List ℕ) : Type 0 where
 
 -- all before the place as it was, or the frame written and any byte as its gate
 abbrev pub Leaves : ℕ → List ℕ → List ℕ → List ℕ → Type 0
-Leaves place frame old new = (take place new ≡ take place old) ⊎ SameBut (place - 1) (over place frame old) new
+Leaves place frame old new =
+    (take place new ≡ take place old) ⊎ SameBut (place - 1) (over place frame old) new

@@ -3,23 +3,21 @@ use Rattle.std.proofs.lemmas.Result.{err_from_is_err_and}
 use Rattle.capture_engine.proofs.Records.{made_empty, rose_later, unmade}
 use Rattle.capture_engine.proofs.recorder.create.Goals as goal
 
-pub returns-in_err-store-clause-unmade : goal.returns-in_err-store-clause-unmade
-returns-in_err-store-clause-unmade g c =
-    let p = err_from_is_err_and c.from_residual.result c.from_residual.ensures.1 in
-    rw (p.1, p.2) (λ taken faults out out' earlier.
-    let said = c.in_err-store.ensures in
-    unmade _ _ c.in_err-store.field-0.0 refl (λ e. said.not_empty (λ i. Err (e i))) (λ e. rose_later faults _ _ earlier (said.fault (λ i. Err (e i)))) (λ e. said.fault_moment (λ i. Err (e i)))
-    (λ e. said.only.0 (λ i. Err (e i))) (λ e. said.only.1 (λ i. Err (e i))) (λ e. said.only.2 (λ i. Err (e i))))
+pub returns-in-Err-clause-unmade : goal.returns-in-Err-clause-unmade
+returns-in-Err-clause-unmade g c = λ taken faults out out' earlier.
+    let said = c.in-Err.ensures in
+    unmade _ _ c.in-Err.fault c.of_store.result c.of_store.ensures refl (λ e. said.not_empty (λ i. Err (e i))) (λ e. rose_later faults _ _ earlier (said.fault (λ i. Err (e i)))) (λ e. said.fault_moment (λ i. Err (e i)))
+    (λ e. said.only.0 (λ i. Err (e i))) (λ e. said.only.2 (λ i. Err (e i)))
 
 pub returns-in_err-recorder-clause-unmade : goal.returns-in_err-recorder-clause-unmade
 returns-in_err-recorder-clause-unmade g c =
-    let p = err_from_is_err_and c.from_residual-in_err-recorder.result c.from_residual-in_err-recorder.ensures.1 in
+    let p = err_from_is_err_and c.from_residual.result c.from_residual.ensures.1 in
     rw (p.1, p.2) (λ taken faults out out' earlier.
-    let store = c.in_ok-store.ensures in made_empty _ _ store.file refl store.moment)
+    let store = c.in-Ok.ensures in made_empty _ _ store.file refl store.moment)
 
 pub returns-clause-made : goal.returns-clause-made
 returns-clause-made g c = λ taken faults out out' earlier later.
-    let store = c.in_ok-store.ensures in
+    let store = c.in-Ok.ensures in
     let kept = c.in_ok-recorder.ensures.same in
     let none = c.in_ok-recorder.ensures.none in
     record {
