@@ -1,19 +1,20 @@
 // What is printed for a line.
-use crate::written::bytes_of;
 use arrival_file::{Arrival, ArrivalFault, ArrivalKind, Arrivals, Turn, read_arrivals};
 use mug_text::NoMemory;
 use std::alloc::Global;
+use written_text::bytes;
 
-/// What an arrival file is read as: `file` and its bytes, `lines` and those after its first two lines, `sized` and the number of its
-/// bytes, each an `a`. `kind` and a word print a fault of that kind.
+/// What an arrival file is read as: `file` and its bytes, `lines` and those after its first two
+/// lines, `sized` and the number of its bytes, each an `a`. `kind` and a word print a fault of that
+/// kind.
 pub fn answer_of(alloc: Global, line: &str) -> Result<String, NoMemory> {
     if let Some(written) = line.strip_prefix("file ") {
-        return read(alloc, &bytes_of(alloc, written)?);
+        return read(alloc, &bytes(alloc, written)?);
     }
     if let Some(written) = line.strip_prefix("lines ") {
-        let mut bytes = Vec::from_slice(alloc, b"mugshot-arrivals 1\nbase http://a.test/\n")?;
-        bytes.extend_from_slice(&bytes_of(alloc, written)?)?;
-        return read(alloc, &bytes);
+        let mut file = Vec::from_slice(alloc, b"mugshot-arrivals 1\nbase http://a.test/\n")?;
+        file.extend_from_slice(&bytes(alloc, written)?)?;
+        return read(alloc, &file);
     }
     if let Some(size) = line.strip_prefix("sized ") {
         return sized(alloc, size.parse::<usize>().unwrap_or(0));

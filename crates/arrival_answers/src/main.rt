@@ -2,7 +2,6 @@
 #![tactic(auto)]
 
 mod answer;
-mod written;
 
 use std::io;
 

@@ -1,6 +1,10 @@
--- The arrival file as a function from its bytes to what they say, line by line, with a row for each kind of line.
--- A row tries the kinds of faults in one order: form, number, size, url, twice, order, length, utf8.
-use Rattle.std.specs.Prelude.{ℕ, zero, suc, ◌+◌, Bool, false, ◌&&◌, nat_lt, List, [], ◌∷◌, ◌++◌, length, codes, decimal, if◌then◌else◌, Option, None, Some, option_to_list, Result, Ok, Err}
+-- The arrival file as a function from its bytes to what they say, line by line, with a row for each
+-- kind of line.
+-- A row tries the kinds of faults in one order: form, number, size, url, twice, order, length,
+-- utf8.
+use Rattle.std.specs.Prelude.{ℕ, zero, suc, ◌+◌, Bool, false, ◌&&◌, nat_lt, List, [], ◌∷◌, ◌++◌}
+use Rattle.std.specs.Prelude.{length, codes, decimal, if◌then◌else◌, Option, None, Some}
+use Rattle.std.specs.Prelude.{option_to_list, Result, Ok, Err}
 use Rattle.std.specs.List.{list_all}
 use Rattle.std.specs.Char.{is_ascii}
 use Rattle.std.specs.Str.{bytes_eq}
@@ -12,7 +16,8 @@ use Rattle.arrival_file.specs.declared.limits.TheConstants.{FILE_LIMIT, WORD_END
 use Rattle.arrival_file.specs.declared.arrival.Arrival.{Arrival}
 use Rattle.arrival_file.specs.declared.arrival.ArrivalFault.{ArrivalFault}
 use Rattle.arrival_file.specs.declared.arrival.ArrivalFault.TheVariants as fault
-use Rattle.arrival_file.specs.declared.arrival.ArrivalKind.TheVariants.{Form, Number, Size, Url, Order}
+use Rattle.arrival_file.specs.declared.arrival.ArrivalKind.TheVariants.{Form, Number, Size, Url}
+use Rattle.arrival_file.specs.declared.arrival.ArrivalKind.TheVariants.{Order}
 use Rattle.arrival_file.specs.declared.arrival.Arrivals.{Arrivals}
 use Rattle.arrival_file.specs.declared.arrival.Turn.{Turn}
 use Rattle.arrival_file.specs.declared.arrival.Turn.TheVariants.{Load}
@@ -39,20 +44,24 @@ is_serialised field (Err e) = false
 
 -- a URL as it is serialised, in ASCII
 abbrev pub url : List ℕ → Parsed (List ℕ)
-url field = if list_all is_ascii field && is_serialised field (parse_url None field) then Ok field else Err (Breaks Url)
+url field =
+    if list_all is_ascii field && is_serialised field (parse_url None field) then Ok field
+    else Err (Breaks Url)
 
 -- ---- the first two lines
 
 -- `mugshot-arrivals 1`: the bytes after it are left
 abbrev pub header_row : Line → Parsed (List ℕ)
 header_row line =
-    if bytes_eq line.word (codes "mugshot-arrivals") then one_field line.fields (λ version. if bytes_eq version (codes "1") then Ok line.after else Err (Breaks Form))
+    if bytes_eq line.word (codes "mugshot-arrivals") then one_field line.fields
+    (λ version. if bytes_eq version (codes "1") then Ok line.after else Err (Breaks Form))
     else Err (Breaks Form)
 
 -- `base URL`: the URL, and the bytes after the line
 abbrev pub base_row : Line → Parsed (List ℕ × List ℕ)
 base_row line =
-    if bytes_eq line.word (codes "base") then one_field line.fields (λ field. and_then (url field) (λ base. Ok (base, line.after)))
+    if bytes_eq line.word (codes "base") then one_field line.fields
+    (λ field. and_then (url field) (λ base. Ok (base, line.after)))
     else Err (Breaks Form)
 
 -- ---- the other lines
@@ -105,7 +114,8 @@ unfoldable pub lines : ℕ → ℕ → SoFar → List ℕ → Result SoFar Arriv
 lines zero number so_far bytes = Ok so_far
 lines (suc n) number so_far [] = Ok so_far
 lines (suc n) number so_far (b ∷ bytes) =
-    and_then (at number (and_then (whole_line (b ∷ bytes)) (row so_far))) (λ (so_far', after). lines n (number + 1) so_far' after)
+    and_then (at number (and_then (whole_line (b ∷ bytes)) (row so_far)))
+    (λ (so_far', after). lines n (number + 1) so_far' after)
 
 -- the lines after the first two, each of which has a byte at least
 abbrev pub turns : List ℕ → Result (List Arrival) ArrivalFault

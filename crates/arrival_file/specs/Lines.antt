@@ -1,5 +1,6 @@
 -- A line of an arrival file, and what a step of reading comes to.
-use Rattle.std.specs.Prelude.{◌≡◌, ◌⊎◌, ℕ, Bool, ◌||◌, ◌==◌, List, [], ◌∷◌, codes, if◌then◌else◌, Option, None, Some, option_map, ok_or, Result, Ok, Err, MatchResult}
+use Rattle.std.specs.Prelude.{◌≡◌, ◌⊎◌, ℕ, Bool, ◌||◌, ◌==◌, List, [], ◌∷◌, codes, if◌then◌else◌}
+use Rattle.std.specs.Prelude.{Option, None, Some, option_map, ok_or, Result, Ok, Err, MatchResult}
 use Rattle.std.specs.Str.{bytes_eq}
 use Rattle.arrival_file.specs.declared.arrival.ArrivalFault.{ArrivalFault}
 use Rattle.arrival_file.specs.declared.arrival.ArrivalFault.TheVariants as fault
@@ -31,7 +32,9 @@ at number (Err stop) = Err (fault_at stop number)
 
 -- the result, seen by `view`, is the expected one, unless memory was out
 abbrev pub GivesBy : {T U E : Type 0} → E → (T → U) → Result T E → Result U E → Type 0
-GivesBy out_of_memory view result expected = MatchResult result (λ x. expected ≡ Ok (view x)) (λ e. (expected ≡ Err e) ⊎ (e ≡ out_of_memory))
+GivesBy out_of_memory view result expected =
+    MatchResult result (λ x. expected ≡ Ok (view x))
+    (λ e. (expected ≡ Err e) ⊎ (e ≡ out_of_memory))
 
 -- ---- lines
 
@@ -50,7 +53,9 @@ longer b line =
 -- the first line; none where no line feed comes
 unfoldable pub line_of : List ℕ → Option Line
 line_of [] = None
-line_of (b ∷ bytes) = if b == 10 then Some (record { word = []; fields = []; after = bytes }) else option_map (longer b) (line_of bytes)
+line_of (b ∷ bytes) =
+    if b == 10 then Some (record { word = []; fields = []; after = bytes })
+    else option_map (longer b) (line_of bytes)
 
 -- a byte that ends a word
 abbrev pub is_end : ℕ → Bool
@@ -64,9 +69,12 @@ word_of (b ∷ bytes) = if is_end b then [] else b ∷ word_of bytes
 -- the words of the kinds of lines that aren't read yet
 abbrev pub is_later : List ℕ → Bool
 is_later word =
-    bytes_eq word (codes "resource") || (bytes_eq word (codes "event") || (bytes_eq word (codes "input")
-    || (bytes_eq word (codes "timer") || (bytes_eq word (codes "reply") || bytes_eq word (codes "fail")))))
+    bytes_eq word (codes "resource") || (bytes_eq word (codes "event")
+    || (bytes_eq word (codes "input") || (bytes_eq word (codes "timer")
+    || (bytes_eq word (codes "reply") || bytes_eq word (codes "fail")))))
 
--- the first line, unless its word is one of those, whatever stands behind it; without a line feed it breaks the form
+-- the first line, unless its word is one of those, whatever stands behind it; without a line feed
+-- it breaks the form
 abbrev pub whole_line : List ℕ → Parsed Line
-whole_line bytes = if is_later (word_of bytes) then Err NotBuilt else ok_or (line_of bytes) (Breaks Form)
+whole_line bytes =
+    if is_later (word_of bytes) then Err NotBuilt else ok_or (line_of bytes) (Breaks Form)

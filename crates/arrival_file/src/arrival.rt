@@ -10,7 +10,8 @@ pub struct Arrivals {
     pub turns: Listed<Arrival>,
 }
 
-/// A turn, with the readings of the clock and the random words that were given for it, in their order.
+/// A turn, with the readings of the clock and the random words that were given for it, in their
+/// order.
 #[derive(Debug, Drop)]
 pub struct Arrival {
     pub turn: Turn,
@@ -28,7 +29,8 @@ pub enum Turn {
 /// Why bytes are no arrival file.
 #[derive(Clone, Copy, Debug, PartialEq, Eq, Error)]
 pub enum ArrivalFault {
-    /// The first line that breaks a rule, from 1, with the first kind that fits; line 0 stands for the file.
+    /// The first line that breaks a rule, from 1, with the first kind that fits; line 0 stands for
+    /// the file.
     #[error("line {line}: {kind}")]
     Line { line: u64, kind: ArrivalKind },
     /// Before any line breaks a rule comes one of a kind that isn't read yet.

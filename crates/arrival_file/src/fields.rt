@@ -1,5 +1,6 @@
 // A line, split into its word and its one field.
-ghost use Rattle.std.specs.Prelude.{◌≡◌, ◌≢◌, ◌<◌, ◌+◌, ℕ, List, ◌∷◌, ◌++◌, length, IfOk, MatchOption};
+ghost use Rattle.std.specs.Prelude.{◌≡◌, ◌≢◌, ◌<◌, ◌+◌, ℕ, List, ◌∷◌, ◌++◌, length, IfOk};
+ghost use Rattle.std.specs.Prelude.{MatchOption};
 ghost use Rattle.std.specs.Str.{bytes_eq};
 ghost use Rattle.arrival_file.specs.Lines.{is_later};
 ghost use Rattle.arrival_file.specs.inner.Split.{EndsField, IsField, Splits};
@@ -60,7 +61,8 @@ fn past(bytes: &[u8], first: u8) -> Option<&[u8]>
 // Splits a line, unless its word is of a kind that isn't read yet.
 pub fn split_line(rest: &[u8]) -> Result<Fields<'_>, Stop>
     ensures splits { Splits result rest.now }
-    ensures shorter { IfOk result (λ line. length line.field.now + length line.after.now < length rest.now) }
+    ensures shorter { IfOk result
+        (λ line. length line.field.now + length line.after.now < length rest.now) }
 {
     let (word, behind) = split_word(rest);
     if is_later(word) {

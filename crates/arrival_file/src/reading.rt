@@ -1,10 +1,12 @@
 // An arrival file from its bytes, once from front to back.
-ghost use Rattle.std.specs.Prelude.{◌≡◌, ◌≤◌, length, Ok, IfOk, IsTrue, MatchResult, None, option_to_list};
+ghost use Rattle.std.specs.Prelude.{◌≡◌, ◌≤◌, length, Ok, IfOk, IsTrue, MatchResult, None};
+ghost use Rattle.std.specs.Prelude.{option_to_list};
 ghost use Rattle.std.specs.Str.{IsAscii};
 ghost use Rattle.mug_text.specs.Text.{IsText};
 ghost use Rattle.url.specs.Parser.{parse_url};
 ghost use Rattle.arrival_file.specs.Lines.{and_then, whole_line};
-ghost use Rattle.arrival_file.specs.Format.{Answers, arrivals_of, base_row, header_row, is_serialised, url};
+ghost use Rattle.arrival_file.specs.Format.{Answers, arrivals_of, base_row, header_row};
+ghost use Rattle.arrival_file.specs.Format.{is_serialised, url};
 ghost use Rattle.arrival_file.specs.Ranges.{InRanges, IsShortText};
 ghost use Rattle.arrival_file.specs.inner.Split.{Gives};
 ghost use Rattle.arrival_file.specs.declared.stop.Stop.TheVariants as stop;

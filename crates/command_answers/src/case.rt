@@ -3,7 +3,7 @@ use crate::shown::shown;
 use mug_disk::MemDisk;
 use mug_outside::{Failing, MemSink, MemSource};
 use mug_text::{Bytes, NoMemory};
-use mugshot_cli::mugshot;
+use mugshot_cli::{Status, mugshot};
 use std::alloc::Global;
 
 /// What a source gives, and which of its calls fail.
@@ -25,6 +25,33 @@ impl Given {
         let bytes = Bytes::of(alloc, &self.bytes)?;
         MemSource::failing(alloc, bytes, &self.fails)
     }
+}
+
+// What the command answers; what it did is in the streams and on the disk.
+fn called(
+    alloc: Global,
+    words: &[String],
+    page: &mut MemSource,
+    arrivals: &mut MemSource,
+    disk: &mut MemDisk,
+    out: &mut MemSink,
+    err: &mut MemSink,
+) -> Status {
+    mugshot(alloc, words, page, arrivals, disk, out, err)
+}
+
+// A status, what both streams took, and a moment.
+fn answer(
+    alloc: Global,
+    status: Status,
+    out: &MemSink,
+    err: &MemSink,
+    moment: u64,
+) -> Result<String, NoMemory> {
+    let code = status.code();
+    let printed = shown(alloc, out.as_slice())?;
+    let said = shown(alloc, err.as_slice())?;
+    Ok(format!(in alloc; "{code} [{printed}] [{said}] {moment}")?)
 }
 
 /// The disk of a case, and what its next command reads and writes.
@@ -58,13 +85,14 @@ impl Case {
         Ok(())
     }
 
-    /// Runs the command of these words: its status, what it printed on both streams, and the disk's writes and syncs so far.
+    /// Runs the command of these words: its status, what it printed on both streams, and the disk's
+    /// writes and syncs so far.
     pub fn run(&mut self, words: &[String]) -> Result<String, NoMemory> {
         let mut page = self.page.source(self.alloc)?;
         let mut arrivals = self.arrivals.source(self.alloc)?;
         let mut out = MemSink::failing(self.alloc, &self.out_fails)?;
         let mut err = MemSink::failing(self.alloc, &self.err_fails)?;
-        let status = mugshot(
+        let status = called(
             self.alloc,
             words,
             &mut page,
@@ -73,11 +101,7 @@ impl Case {
             &mut out,
             &mut err,
         );
-        let code = status.code();
-        let printed = shown(self.alloc, out.as_slice())?;
-        let said = shown(self.alloc, err.as_slice())?;
-        let moment = self.disk.moment();
-        Ok(format!(in self.alloc; "{code} [{printed}] [{said}] {moment}")?)
+        answer(self.alloc, status, &out, &err, self.disk.moment())
     }
 
     /// What the disk holds.

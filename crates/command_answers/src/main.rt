@@ -4,7 +4,6 @@
 mod case;
 mod parts;
 mod shown;
-mod written;
 
 use std::io;
 

@@ -1,16 +1,20 @@
 // The parts of a line of cases, from left to right.
 use crate::case::{Case, Given};
-use crate::written::bytes_of;
 use mug_text::NoMemory;
 use std::alloc::Global;
+use written_text::bytes;
 
-/// What the parts of a line print, with ` & ` between them. A part is one of these, where FAILS are the numbers of the calls that fail,
+/// What the parts of a line print, with ` & ` between them. A part is one of these, where FAILS are
+/// the numbers of the calls that fail,
 /// with commas, or `-`:
 ///
-/// - `page FAILS BYTES`, `file FAILS BYTES` (the arrival file), `lines FAILS BYTES` (the same behind a first and a second line),
-///   `thin FAILS N` (a page of N statements `Date.now()`), `out FAILS`, `err FAILS`: what the commands are given from here on;
+/// - `page FAILS BYTES`, `file FAILS BYTES` (the arrival file), `lines FAILS BYTES` (the same
+/// behind a first and a second line),
+///   `thin FAILS N` (a page of N statements `Date.now()`), `out FAILS`, `err FAILS`: what the
+/// commands are given from here on;
 /// - `disk WRITES READS BYTES`: another disk, with the writes and syncs and the reads that fail;
-/// - `do WORDS`: runs a command, with a space between its words; `held`: prints what the disk holds.
+/// - `do WORDS`: runs a command, with a space between its words; `held`: prints what the disk
+/// holds.
 pub fn answer_of(alloc: Global, line: &str) -> Result<String, NoMemory> {
     let mut case = Case::new(alloc);
     let mut out = String::new(alloc);
@@ -63,8 +67,8 @@ fn set(
         "disk" => {
             let (reads, written) = rest.split_once(" ").unwrap_or((rest, ""));
             let reads = numbers_of(alloc, reads)?;
-            let bytes = bytes_of(alloc, written)?;
-            case.hold(bytes, &fails, &reads)?;
+            let held = bytes(alloc, written)?;
+            case.hold(held, &fails, &reads)?;
         }
         _ => return Ok(Some(String::from_str(alloc, "no part")?)),
     }
@@ -73,9 +77,12 @@ fn set(
 
 // These bytes, behind others.
 fn given(alloc: Global, written: &str, first: &[u8], fails: Vec<u64>) -> Result<Given, NoMemory> {
-    let mut bytes = first.to_vec(alloc)?;
-    bytes.extend_from_slice(&bytes_of(alloc, written)?)?;
-    Ok(Given { bytes, fails })
+    let mut given = first.to_vec(alloc)?;
+    given.extend_from_slice(&bytes(alloc, written)?)?;
+    Ok(Given {
+        bytes: given,
+        fails,
+    })
 }
 
 // A page of a number of statements that read the clock.

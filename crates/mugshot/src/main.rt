@@ -101,25 +101,36 @@ fn starved(rt: &HostRuntime) -> Status {
     Status::NoMemory
 }
 
-// Opens what the command names, and runs it.
-fn run(rt: &HostRuntime, alloc: Global) -> Status {
-    let Ok(words) = words(rt) else {
-        return starved(rt);
-    };
-    let mut files = match read_words(alloc, &words) {
-        Ok(command) => open_files(rt, &command),
-        Err(UsageFault::Usage) => no_files(),
-        Err(UsageFault::NoMemory) => return starved(rt),
-    };
+// The files that the words' command names; words that are no command name none.
+fn files_of(rt: &HostRuntime, alloc: Global, words: &[String]) -> Result<Files, NoMemory> {
+    match read_words(alloc, words) {
+        Ok(command) => Ok(open_files(rt, &command)),
+        Err(UsageFault::Usage) => Ok(no_files()),
+        Err(UsageFault::NoMemory) => Err(NoMemory),
+    }
+}
+
+// Runs the words' command over these files.
+fn called(rt: &HostRuntime, alloc: Global, words: &[String], files: &mut Files) -> Status {
     mugshot(
         alloc,
-        &words,
+        words,
         &mut files.page,
         &mut files.arrivals,
         &mut files.session,
         &mut StdSink::new(rt.stdout()),
         &mut StdSink::new(rt.stderr()),
     )
+}
+
+fn run(rt: &HostRuntime, alloc: Global) -> Status {
+    let Ok(words) = words(rt) else {
+        return starved(rt);
+    };
+    match files_of(rt, alloc, &words) {
+        Ok(mut files) => called(rt, alloc, &words, &mut files),
+        Err(NoMemory) => starved(rt),
+    }
 }
 
 fn main(rt: HostRuntime) -> ExitCode {

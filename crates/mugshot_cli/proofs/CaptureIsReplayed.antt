@@ -1,6 +1,6 @@
 -- The finished file of a capture recovers to its head and its inputs.
 use Rattle.std.specs.Prelude.{All}
-use Rattle.std.proofs.Common.{◌≡◌, ℕ, zero, suc, ◌+◌, ◌<◌, ◌^◌, Bool, true, false, List, [], ◌∷◌, ◌++◌, length, drop, take, map, flat_map, ◌∙◌, nat_le, refl, sym, subst, arith, if◌then◌else◌}
+use Rattle.std.proofs.Common.{◌≡◌, ℕ, zero, suc, ◌+◌, ◌<◌, ◌^◌, Bool, true, false, List, [], ◌∷◌, ◌++◌, length, drop, map, flat_map, ◌∙◌, nat_le, refl, sym, subst, arith, if◌then◌else◌}
 use Rattle.std.proofs.Math.Seq.{drop-append_seam, take-append_seam}
 use Rattle.std.proofs.lemmas.Bool.Decides.{nat_tests}
 use Rattle.std.proofs.lemmas.List.Elements.{All-append, All-cons, All-drop, All-head, All-nil, All-push, All-tail, All-take}
@@ -163,8 +163,9 @@ whole base page budget inputs frames valid all are fit =
 pub capture_is_replayed : CaptureIsReplayed
 capture_is_replayed base page budget statements arrivals frames valid ranges some one are fit =
     let run = plain budget statements arrivals in
-    let all = all_valid budget (start_state statements) no_answers arrivals (record { t = omega arith; nows = All-nil (λ v. v < SAFE_END); rands = All-nil (λ w. w < 2 ^ 32) }) ranges in (
-      whole base page budget run.inputs frames valid all are fit,
-      plain_again budget statements arrivals some one,
-      plain_ends budget (start_state statements) no_answers arrivals,
-    )
+    let all = all_valid budget (start_state statements) no_answers arrivals (record { t = omega arith; nows = All-nil (λ v. v < SAFE_END); rands = All-nil (λ w. w < 2 ^ 32) }) ranges in
+    record {
+      recovers = whole base page budget run.inputs frames valid all are fit;
+      replayed = plain_again budget statements arrivals some one;
+      ended = plain_ends budget (start_state statements) no_answers arrivals;
+    }

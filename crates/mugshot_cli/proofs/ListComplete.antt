@@ -43,6 +43,8 @@ done_or_starved WriteFault before after bytes items end is whole quiet listed = 
 done_or_starved (Refused why) before after bytes items end is whole quiet listed = inr (starved_alone why before.held before.disk after.disk bytes items end is whole quiet.disk listed.1)
 
 pub list_completes : (words : List (List ℕ)) (r : Outcome) (before after : Outside) → WordsDid words r before after → ListCompletes words (status_of r) before.shows after.shows
-list_completes words r before after did session bytes items end spelled is whole quiet =
-    let own = did.spelled (command.List session) spelled in
-    subst (λ (x : Outcome). IsOrStarved (status_of x) status.Done) (sym own.1) (done_or_starved own.0 before.shows after.shows bytes items end is whole quiet own.2.listed)
+list_completes words r before after did = record {
+  completes = λ session bytes items end spelled is whole quiet.
+      let own = did.spelled (command.List session) spelled in
+      subst (λ (x : Outcome). IsOrStarved (status_of x) status.Done) (sym own.1) (done_or_starved own.0 before.shows after.shows bytes items end is whole quiet own.2.listed);
+}

@@ -8,7 +8,7 @@ use Rattle.mug_outside.specs.Told.{behind, TookLess, TookPart}
 use Rattle.mug_outside.proofs.Told.{behind_behind, behind_nil}
 use Rattle.capture_engine.proofs.Records.{rose_later}
 use Rattle.mugshot_cli.specs.Outside.{Stream}
-use Rattle.mugshot_cli.specs.Printing.{Adds, Broke, Prints, Puts}
+use Rattle.mugshot_cli.specs.inner.Lines.{Adds, Broke, Prints, Puts}
 use Rattle.mugshot_cli.specs.declared.lines.PrintFault.{PrintFault}
 use Rattle.mugshot_cli.specs.declared.lines.PrintFault.TheVariants.{WriteFault, NoMemory}
 
@@ -109,6 +109,10 @@ puts_failed {waits} {mid} {s} {t} {fault} a b waits' puts = record {
 
 pub puts_same : {r : Result (Unit {0}) PrintFault} {waits waits' : List ℕ} {s t : Stream} (a b : List ℕ) → a ≡ b → Puts r a waits waits' s t → Puts r b waits waits' s t
 puts_same {r} {waits} {waits'} {s} {t} a b same puts = subst (λ (l : List ℕ). Puts r l waits waits' s t) same puts
+
+-- an empty text
+pub puts_nothing : {s : Stream} (x : Unit {0}) (text waits : List ℕ) → text ≡ [] → Puts (Ok x) text waits waits s s
+puts_nothing {s} x text waits none = puts_ok x (subst (λ (l : List ℕ). Adds l waits waits s s) (sym none) (adds_none waits s)) (omega arith)
 
 -- there was no memory for the text
 pub puts_starved : {s : Stream} (text waits waits' : List ℕ) → Puts (Err NoMemory) text waits waits' s s

@@ -1,5 +1,5 @@
 -- From where a recording stands to what it did.
-use Rattle.std.proofs.Common.{◌≡◌, ◌⊎◌, inl, inr, ℕ, zero, suc, ◌+◌, ◌-◌, ◌*◌, ◌<◌, ◌≤◌, Bool, true, false, cond, List, [], ◌∷◌, ◌++◌, length, take, map, Option, refl, sym, ◌∙◌, ap, subst, arith, append_assoc, length-append, option_map, count_by, nat_lt, nat_le, if◌then◌else◌}
+use Rattle.std.proofs.Common.{◌≡◌, ◌⊎◌, inl, inr, ℕ, zero, suc, ◌+◌, ◌-◌, ◌*◌, ◌<◌, ◌≤◌, Bool, true, false, cond, List, [], ◌∷◌, ◌++◌, length, take, map, Option, Ok, refl, sym, ◌∙◌, ap, subst, arith, append_assoc, length-append, option_map, count_by, nat_lt, nat_le, if◌then◌else◌}
 use Rattle.std.proofs.lemmas.Bool.{le-ltb, lt-ltb, cond-true, cond-false}
 use Rattle.std.proofs.lemmas.Bool.Decides.{nat_tests}
 use Rattle.std.proofs.lemmas.List.{append-nil, take_all, take-append-le}
@@ -17,20 +17,22 @@ use Rattle.log_frames.specs.Frames.{frame, opened}
 use Rattle.session_store.specs.Session.{payload_of}
 use Rattle.session_store.specs.Recovery.{place_after}
 use Rattle.session_store.specs.Keeping.{file}
-use Rattle.session_store.specs.declared.keeper.StoreFault.TheVariants as store_fault
 use Rattle.session_store.specs.declared.keeper.TheConstants.{SESSION_LIMIT}
 use Rattle.capture_engine.specs.Acks.{ack_line, acks, acks_below, acks_from, text_of_lines}
 use Rattle.capture_engine.specs.Frames.{AreFramesOf, fitting, fitting_from}
 use Rattle.capture_engine.specs.Outside.{IsEarly, Shown, seen}
 use Rattle.capture_engine.specs.Recording.{Committed, Halted, Holds, IsFaultyAt, IsFullAt, IsUnsaidAt, RecorderState, Starved, Stopped, Unmade, inputs_in}
 use Rattle.capture_engine.specs.declared.recorder.CaptureFault.{CaptureFault}
-use Rattle.capture_engine.specs.declared.recorder.CaptureFault.TheVariants.{Store, WriteFault, NoMemory}
+use Rattle.capture_engine.specs.declared.recorder.CaptureFault.TheVariants.{NotEmpty, Full, DiskFault, WriteFault, NoMemory}
 use Rattle.capture_engine.proofs.Recordings.{inputs_in_a_row}
 use Rattle.capture_engine.proofs.Records.{acks_append, acks_push, count_append, frames_small, rose_later, text_push}
-use Rattle.mugshot_cli.specs.Capturing.{HaltDid, HasFailedDisk, HasFailedOutput, HasRecorded, HasStarved, RunDid, capture_lines, summary, summary_line}
+use Rattle.mugshot_cli.specs.Capturing.{HaltDid, HasFailedDisk, HasFailedOutput, HasFilled, HasRecorded, HasStarved, RunDid, capture_lines, summary, summary_line}
+use Rattle.mugshot_cli.specs.inner.Recording.{recorded_as}
+use Rattle.mugshot_cli.specs.declared.counts.Counts.{Counts}
+use Rattle.mugshot_cli.specs.declared.thin_page.end.PlainEnd.TheVariants as plain_end
 use Rattle.mugshot_cli.specs.ThinPage.Run.{Answers, Run, answer, answers_of, moment, used, goes_on, plain_from, ends, is_finished}
 use Rattle.mugshot_cli.specs.ThinPage.Machine.{State, begun, contract}
-use Rattle.mugshot_cli.specs.ThinPage.PlainState.{EndsIn, IsPlainEnd, PlainState, RunsOn, rest_of, run_end}
+use Rattle.mugshot_cli.specs.ThinPage.inner.PlainState.{EndsIn, IsPlainEnd, PlainState, RunsOn, rest_of, run_end}
 use Rattle.mugshot_cli.specs.declared.thin_page.page.Move.{Move}
 use Rattle.mugshot_cli.specs.declared.thin_page.end.End.{End}
 use Rattle.mugshot_cli.specs.declared.thin_page.end.End.TheVariants.{Finished, Budget}
@@ -153,9 +155,10 @@ no_end whole r ended on = not_ended r whole.end on ended.end_is
 
 -- ---- what a capture did
 
-pub summary_is : (whole : Run) (frames : ℕ) (line : List ℕ) (end : PlainEnd) (turns count inputs n : ℕ) → line ≡ summary (run_end end) turns count inputs n → run_end end ≡ whole.end → turns ≡ whole.last.turns → count ≡ whole.last.steps
-    → inputs ≡ length whole.inputs → n ≡ frames → line ≡ summary_line whole frames
-summary_is whole frames line end turns count inputs n is ends_so turns_are steps_are inputs_are frames_are = is ∙ (λ i. summary (ends_so i) (turns_are i) (steps_are i) (inputs_are i) (frames_are i))
+pub summary_is : (whole : Run) (frames : ℕ) (line : List ℕ) (end : PlainEnd) (turns dropped : ℕ) (counts : Counts) (inputs n : ℕ) → line ≡ summary (run_end end) turns dropped counts inputs n → run_end end ≡ whole.end
+    → turns ≡ whole.last.turns → dropped ≡ whole.dropped → counts ≡ whole.counts → inputs ≡ length whole.inputs → n ≡ frames → line ≡ summary_line whole frames
+summary_is whole frames line end turns dropped counts inputs n is ends_so turns_are dropped_are counts_are inputs_are frames_are =
+    is ∙ (λ i. summary (ends_so i) (turns_are i) (dropped_are i) (counts_are i) (inputs_are i) (frames_are i))
 
 take_front : {A : Type 0} (xs ys : List A) → take (length xs) (xs ++ ys) ≡ xs
 take_front [] ys = refl
@@ -171,13 +174,14 @@ section_ frames others all group is =
 recorded_at : {start now : Shown} (frames : List (List LogItem)) → Holds start now frames → HasRecorded frames (acks frames) start now
 recorded_at frames holds = record { fit = all_fit frames holds.fits; file_is = holds.file_is; printed = holds.printed; time = holds.time }
 
-full_did : (all : List (List LogItem)) (start now : Shown) → Stopped (IsFullAt start now) all → (fitting all ≡ all → ⊥) × HasRecorded (fitting all) (acks (fitting all)) start now
+full_did : (all : List (List LogItem)) (start now : Shown) → Stopped (IsFullAt start now) all → HasFilled all start now
 full_did all start now stopped =
     let stops = stopped.stops in
-    let fit : fitting all ≡ stopped.frames = fitting_full stopped.frames stopped.others all stopped.group stopped.is stops.holds.fits stops.passes in (
-      (λ same. omega (arith, ap length (sym fit ∙ same ∙ stopped.is), length-append stopped.frames (stopped.group ∷ stopped.others))),
-      subst (λ (f : List (List LogItem)). HasRecorded f (acks f) start now) (sym fit) (recorded_at stopped.frames stops.holds),
-    )
+    let fit : fitting all ≡ stopped.frames = fitting_full stopped.frames stopped.others all stopped.group stopped.is stops.holds.fits stops.passes in
+    record {
+      more = λ same. omega (arith, ap length (sym fit ∙ same ∙ stopped.is), length-append stopped.frames (stopped.group ∷ stopped.others));
+      recorded = subst (λ (f : List (List LogItem)). HasRecorded f (acks f) start now) (sym fit) (recorded_at stopped.frames stops.holds);
+    }
 
 disk_did : (all : List (List LogItem)) (start now : Shown) → Stopped (IsFaultyAt start now) all → HasFailedDisk all start now
 disk_did all start now stopped =
@@ -191,9 +195,11 @@ disk_did all start now stopped =
           let k = now.moment - start.moment in
           let lines : acks_below k 0 2 (frames ++ stopped.group ∷ stopped.others) ≡ acks frames = until k 0 2 frames (stopped.group ∷ stopped.others) (λ some. omega arith) (omega arith) in (
             k,
-            omega arith,
-            stops.printed ∙ ap (λ (l : List (List ℕ)). behind (text_of_lines l) start.taken) (sym (ap (acks_below k 0 2) stopped.is ∙ lines)),
-            (λ j below. prefix_fits frames stopped.others all stopped.group j stopped.is stops.fits (omega arith)),
+            record {
+              time = omega arith;
+              printed = stops.printed ∙ ap (λ (l : List (List ℕ)). behind (text_of_lines l) start.taken) (sym (ap (acks_below k 0 2) stopped.is ∙ lines));
+              fit = λ j below. prefix_fits frames stopped.others all stopped.group j stopped.is stops.fits (omega arith);
+            },
           );
     }
 
@@ -207,9 +213,11 @@ created_not all start now rose still time = record {
       let k = now.moment - start.moment in
       let lines : acks_below k 0 2 all ≡ [] = until k 0 2 [] all (λ some. absurd (omega arith)) (omega arith) in (
         k,
-        omega arith,
-        still ∙ sym (ap (λ (l : List (List ℕ)). behind (text_of_lines l) start.taken) lines ∙ behind_nil start.taken),
-        (λ j below. absurd (omega arith)),
+        record {
+          time = omega arith;
+          printed = still ∙ sym (ap (λ (l : List (List ℕ)). behind (text_of_lines l) start.taken) lines ∙ behind_nil start.taken);
+          fit = λ j below. absurd (omega arith);
+        },
       );
 }
 
@@ -242,21 +250,17 @@ starved_did all start now starved =
 
 -- a recording that was halted
 pub halt_did : (fault : CaptureFault) (run : Run) (all : List (List LogItem)) (start now : Shown) → Halted fault start now all → HaltDid fault run all start now
-halt_did (Store store_fault.Full) run all start now halted = full_did all start now halted
-halt_did (Store store_fault.DiskFault) run all start now halted = disk_did all start now halted
-halt_did (Store store_fault.NoMemory) run all start now halted = starved_did all start now halted
-halt_did (Store store_fault.NotEmpty) run all start now halted = absurd halted
-halt_did (Store store_fault.Stopped) run all start now halted = absurd halted
+halt_did NotEmpty run all start now halted = absurd halted
+halt_did Full run all start now halted = full_did all start now halted
+halt_did DiskFault run all start now halted = disk_did all start now halted
 halt_did WriteFault run all start now halted = write_did run all start now halted
 halt_did NoMemory run all start now halted = starved_did all start now halted
 
 -- or that was not begun
 pub start_did : (fault : CaptureFault) (run : Run) (all : List (List LogItem)) (start now : Shown) → Unmade fault start now ⊎ Halted fault start now all → HaltDid fault run all start now
-start_did (Store store_fault.NotEmpty) run all start now (inl made) = (record { held = made.1; moment = made.2; taken = made.3 }, made.0)
-start_did (Store store_fault.DiskFault) run all start now (inl made) = created_not all start now made.0 made.1 made.2
-start_did (Store store_fault.Full) run all start now (inl made) = absurd made
-start_did (Store store_fault.NoMemory) run all start now (inl made) = absurd made
-start_did (Store store_fault.Stopped) run all start now (inl made) = absurd made
+start_did NotEmpty run all start now (inl made) = (record { held = made.1; moment = made.2; taken = made.3 }, made.0)
+start_did DiskFault run all start now (inl made) = created_not all start now made.0 made.1 made.2
+start_did Full run all start now (inl made) = absurd made
 start_did WriteFault run all start now (inl made) = absurd made
 start_did NoMemory run all start now (inl made) = (0, recorded_at [] made)
 start_did fault run all start now (inr halted) = halt_did fault run all start now halted
@@ -272,11 +276,9 @@ module _ {start : Shown} {held : Option (List ℕ)} {moment : ℕ} {taken : Opti
   recorded : (new : Option (List ℕ)) (out' : ℕ) → new ≡ behind line taken → HasRecorded all (capture_lines run all) start (seen held moment new disk out')
   recorded new out' took = record { fit = all_fit all so_far.holds.fits; file_is = so_far.holds.file_is; printed = printed new took; time = so_far.holds.time }
 
-  pub done_did : Finished ≡ run.end → (new : Option (List ℕ)) (out' : ℕ) → new ≡ behind line taken → RunDid ran.Done budget run all start (seen held moment new disk out')
-  done_did finished new out' took = (sym finished, recorded new out' took)
-
-  pub budget_did : Budget ≡ run.end → (new : Option (List ℕ)) (out' : ℕ) → new ≡ behind line taken → RunDid (ran.Budget budget) budget run all start (seen held moment new disk out')
-  budget_did spent new out' took = (sym spent, refl, recorded new out' took)
+  pub ended_did : (end : PlainEnd) → run_end end ≡ run.end → (new : Option (List ℕ)) (out' : ℕ) → new ≡ behind line taken → RunDid (recorded_as budget (Ok end)) budget run all start (seen held moment new disk out')
+  ended_did plain_end.Finished finished new out' took = record { end_is = sym finished; recorded = recorded new out' took }
+  ended_did plain_end.Budget spent new out' took = (refl, record { end_is = sym spent; recorded = recorded new out' took })
 
   pub line_lost : (new : Option (List ℕ)) (out' : ℕ) → Rose out out' → TookLess line taken new → RunDid (ran.Halted WriteFault) budget run all start (seen held moment new disk out')
   line_lost new out' rose less =

@@ -14,7 +14,8 @@ use Rattle.capture_engine.specs.Frames.{AreFrames, AreFramesOf}
 use Rattle.capture_engine.specs.Outside.{Shown}
 use Rattle.capture_engine.specs.Recording.{Committed, Recorded, RecorderState, Starved, ended}
 use Rattle.capture_engine.specs.inner.Grouping.{frames_of, grouped, turns_grouped}
-use Rattle.capture_engine.proofs.Logging.{Logging, logging_answer, logging_turn, more_of_turn, turn_of}
+use Rattle.capture_engine.specs.inner.Logging.{Logging}
+use Rattle.capture_engine.proofs.Logging.{logging_answer, logging_turn, more_of_turn, turn_of}
 use Rattle.capture_engine.proofs.Runs.{frames_are, same_frames}
 use Rattle.mugshot_cli.specs.inner.Recording.{IsReady}
 

@@ -86,6 +86,8 @@ answers WriteFault before after bytes budget run is replays quiet did = absurd (
 answers NoMemory before after bytes budget run is replays quiet did = starved run status.NoMemory refl
 
 pub replay_completes : (words : List (List ℕ)) (r : Outcome) (before after : Outside) → WordsDid words r before after → ReplayCompletes words (status_of r) before.shows after.shows
-replay_completes words r before after did session bytes budget run spelled is replays quiet =
-    let own = did.spelled (command.Replay session) spelled in
-    subst (λ (x : Outcome). AnswersRun run (status_of x)) (sym own.1) (answers own.0 before.shows after.shows bytes budget run is replays quiet own.2.replayed)
+replay_completes words r before after did = record {
+  completes = λ session bytes budget run spelled is replays quiet.
+      let own = did.spelled (command.Replay session) spelled in
+      subst (λ (x : Outcome). AnswersRun run (status_of x)) (sym own.1) (answers own.0 before.shows after.shows bytes budget run is replays quiet own.2.replayed);
+}

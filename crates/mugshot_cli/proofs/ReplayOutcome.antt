@@ -7,8 +7,9 @@ use Rattle.input_log.specs.declared.item.LogItem.TheVariants.{Head, Load, Now, R
 use Rattle.session_store.specs.Session.{KeepsRules}
 use Rattle.session_store.specs.Recovery.{IsWhole, Recovers, Whole}
 use Rattle.capture_engine.specs.Outside.{Shown}
-use Rattle.mugshot_cli.specs.Replaying.{HasOtherPage, IsHeadless, Replayed, Replays, TookTrace, outcome_at}
-use Rattle.mugshot_cli.specs.Sessions.{BeginsWithHead}
+use Rattle.mugshot_cli.specs.Replaying.{HasOtherPage, IsHeadless, Replayed, Replays, TookTrace}
+use Rattle.mugshot_cli.specs.inner.Commands.{outcome_at}
+use Rattle.mugshot_cli.specs.inner.Commands.{BeginsWithHead}
 use Rattle.mugshot_cli.specs.ThinPage.Reading.{IsThin}
 use Rattle.mugshot_cli.specs.ThinPage.Run.{Run, from_inputs}
 use Rattle.mugshot_cli.specs.ThinPage.Tracing.{trace_text}

@@ -3,7 +3,8 @@ use Rattle.std.proofs.Common.{◌≡◌, inl, inr, ℕ, ◌-◌, ◌<◌, ◌≤
 use Rattle.std.proofs.lemmas.Fmt.{decimal_injective}
 use Rattle.std.proofs.lemmas.List.{take_all}
 use Rattle.input_log.specs.declared.item.TheConstants.{STEPS_LIMIT}
-use Rattle.mugshot_cli.specs.Command.{AreFiles, AreSteps, HasFiles, Spells}
+use Rattle.mugshot_cli.specs.Command.{AreFiles, AreSteps, Spells}
+use Rattle.mugshot_cli.specs.inner.Commands.{HasFiles}
 use Rattle.mugshot_cli.specs.declared.command.Command.{Command}
 use Rattle.mugshot_cli.specs.declared.command.Command.TheVariants as command
 

@@ -10,14 +10,13 @@ use Rattle.input_log.specs.declared.item.Word.{Word}
 use Rattle.input_log.specs.declared.item.Word.TheVariants as word
 use Rattle.capture_engine.specs.declared.recorder.CaptureFault.{CaptureFault}
 use Rattle.capture_engine.specs.declared.recorder.CaptureFault.TheVariants as fault
-use Rattle.session_store.specs.declared.keeper.StoreFault.TheVariants as store_fault
 use Rattle.mugshot_cli.specs.Outside.{Stream}
-use Rattle.mugshot_cli.specs.declared.capturing.ArrivalsRefusal.{ArrivalsRefusal}
-use Rattle.mugshot_cli.specs.declared.capturing.ArrivalsRefusal.TheVariants as file
+use Rattle.mugshot_cli.specs.declared.sources.ArrivalsRefusal.{ArrivalsRefusal}
+use Rattle.mugshot_cli.specs.declared.sources.ArrivalsRefusal.TheVariants as file
 use Rattle.mugshot_cli.specs.declared.capturing.CaptureOutcome.{CaptureOutcome}
 use Rattle.mugshot_cli.specs.declared.capturing.CaptureOutcome.TheVariants as capture
-use Rattle.mugshot_cli.specs.declared.capturing.PageRefusal.{PageRefusal}
-use Rattle.mugshot_cli.specs.declared.capturing.PageRefusal.TheVariants as page
+use Rattle.mugshot_cli.specs.declared.sources.PageRefusal.{PageRefusal}
+use Rattle.mugshot_cli.specs.declared.sources.PageRefusal.TheVariants as page
 use Rattle.mugshot_cli.specs.declared.listing.ListOutcome.{ListOutcome}
 use Rattle.mugshot_cli.specs.declared.listing.ListOutcome.TheVariants as list
 use Rattle.mugshot_cli.specs.declared.replaying.ReplayOutcome.{ReplayOutcome}
@@ -27,7 +26,12 @@ use Rattle.mugshot_cli.specs.declared.session.SessionRefusal.TheVariants as refu
 use Rattle.mugshot_cli.specs.declared.thin_page.recording.RunOutcome.{RunOutcome}
 use Rattle.mugshot_cli.specs.declared.thin_page.recording.RunOutcome.TheVariants as ran
 use Rattle.mugshot_cli.specs.declared.outcome.Outcome.{Outcome}
-use Rattle.mugshot_cli.specs.declared.outcome.Outcome.TheVariants.{Done, Usage, PageTooLarge, PageNotUtf8, BadArrivals, Budget, NotEmpty, NotASession, Damaged, Diverged, Full, ReadFault, DiskFault, WriteFault, NoMemory, NotBuilt}
+use Rattle.mugshot_cli.specs.declared.outcome.Outcome.TheVariants.{Done, Usage, PageTooLarge}
+use Rattle.mugshot_cli.specs.declared.outcome.Outcome.TheVariants.{PageNotUtf8, BadArrivals, Budget}
+use Rattle.mugshot_cli.specs.declared.outcome.Outcome.TheVariants.{NotEmpty, NotASession, Damaged}
+use Rattle.mugshot_cli.specs.declared.outcome.Outcome.TheVariants.{Diverged, Full, ReadFault}
+use Rattle.mugshot_cli.specs.declared.outcome.Outcome.TheVariants.{DiskFault, WriteFault, NoMemory}
+use Rattle.mugshot_cli.specs.declared.outcome.Outcome.TheVariants.{NotBuilt}
 use Rattle.mugshot_cli.specs.declared.outcome.Status.{Status}
 use Rattle.mugshot_cli.specs.declared.outcome.Status.TheVariants as status
 
@@ -103,12 +107,16 @@ line_of Done = []
 line_of Usage = refusal_line (codes "usage")
 line_of PageTooLarge = refusal_line (codes "bad page: too large")
 line_of (PageNotUtf8 at) = refusal_line (codes "bad page: not utf-8 at " ++ decimal at)
-line_of (BadArrivals line kind) = refusal_line (codes "bad arrivals: line " ++ decimal line ++ codes ": " ++ kind_text kind)
-line_of (Budget steps) = refusal_line (codes "budget of " ++ decimal steps ++ codes " steps is used up")
+line_of (BadArrivals line kind) =
+    refusal_line (codes "bad arrivals: line " ++ decimal line ++ codes ": " ++ kind_text kind)
+line_of (Budget steps) =
+    refusal_line (codes "budget of " ++ decimal steps ++ codes " steps is used up")
 line_of NotEmpty = refusal_line (codes "session is not empty")
 line_of NotASession = refusal_line (codes "not a session")
 line_of (Damaged at) = refusal_line (codes "damaged session at " ++ decimal at)
-line_of (Diverged entry wanted found) = refusal_line (codes "diverged at record " ++ decimal entry ++ codes ": wanted " ++ want_text wanted ++ codes ", found " ++ word_text found)
+line_of (Diverged entry wanted found) =
+    refusal_line (codes "diverged at record " ++ decimal entry
+    ++ codes ": wanted " ++ want_text wanted ++ codes ", found " ++ word_text found)
 line_of Full = refusal_line (codes "session is full")
 line_of ReadFault = refusal_line (codes "read fault")
 line_of NotBuilt = refusal_line (codes "not built yet")
@@ -116,7 +124,8 @@ line_of DiskFault = refusal_line (codes "disk fault")
 line_of WriteFault = refusal_line (codes "write fault")
 line_of NoMemory = refusal_line (codes "out of memory")
 
--- a stream took a part from the front of the line, and all of it where its count of faults didn't rise
+-- a stream took a part from the front of the line, and all of it where its count of faults didn't
+-- rise
 pub record TookLine (line : List ℕ) (before after : Stream) : Type 0 where
   pub part : TookPart line before.taken after.taken
   pub whole : (Rose before.faults after.faults → ⊥) → after.taken ≡ behind line before.taken
@@ -162,13 +171,11 @@ of_file (file.Line line kind) = BadArrivals line kind
 of_file file.NotBuilt = NotBuilt
 of_file file.NoMemory = NoMemory
 
--- a recording that was halted; a store that is stopped has met a fault of the disk
+-- a recording that was halted
 abbrev pub of_fault : CaptureFault → Outcome
-of_fault (fault.Store store_fault.NotEmpty) = NotEmpty
-of_fault (fault.Store store_fault.Full) = Full
-of_fault (fault.Store store_fault.DiskFault) = DiskFault
-of_fault (fault.Store store_fault.Stopped) = DiskFault
-of_fault (fault.Store store_fault.NoMemory) = NoMemory
+of_fault fault.NotEmpty = NotEmpty
+of_fault fault.Full = Full
+of_fault fault.DiskFault = DiskFault
 of_fault fault.WriteFault = WriteFault
 of_fault fault.NoMemory = NoMemory
 

@@ -1,23 +1,10 @@
--- What the outside shows at one moment: one value for the state before the call, and one for the state after it.
+-- What the outside shows at one moment: one value for the state before the call, and one for the
+-- state after it.
 use Rattle.std.specs.Prelude.{◌≡◌, ℕ, List, Option}
 use Rattle.mug_outside.specs.declared.source.Source.{Ghosts as SourceGhosts}
 use Rattle.mug_outside.specs.declared.sink.Sink.{Ghosts as SinkGhosts}
 use Rattle.mug_disk.specs.declared.disk.Disk.{Ghosts as DiskGhosts}
 use Rattle.capture_engine.specs.Outside.{Shown, shown}
-
--- what the sources of page and arrivals have left, their counts of faults, and what disk and output show
-pub record Outside : Type 0 where
-  pub page : Option (List ℕ)
-  pub page_faults : ℕ
-  pub arrivals : Option (List ℕ)
-  pub arrivals_faults : ℕ
-  pub shows : Shown
-
-module _ {P A D O : Type 0} (p : SourceGhosts P) (a : SourceGhosts A) (d : DiskGhosts D) (o : SinkGhosts O) where
-  -- what these four show
-  abbrev pub outside : P → A → D → O → Outside
-  outside page arrivals disk out =
-      record { page = p.left page; page_faults = p.faults page; arrivals = a.left arrivals; arrivals_faults = a.faults arrivals; shows = shown d o disk out }
 
 -- what an output took, and its count of faults
 pub record Stream : Type 0 where
@@ -27,6 +14,33 @@ pub record Stream : Type 0 where
 module _ {O : Type 0} (o : SinkGhosts O) where
   abbrev pub stream : O → Stream
   stream out = record { taken = o.taken out; faults = o.faults out }
+
+-- what a source has left, and its count of faults
+pub record Supply : Type 0 where
+  pub left : Option (List ℕ)
+  pub faults : ℕ
+
+module _ {S : Type 0} (s : SourceGhosts S) where
+  abbrev pub supply : S → Supply
+  supply source = record { left = s.left source; faults = s.faults source }
+
+-- the sources of page and arrivals, what disk and output show, and the output for refusals
+pub record Outside : Type 0 where
+  pub page : Supply
+  pub arrivals : Supply
+  pub shows : Shown
+  pub err : Stream
+
+module _ {P A D O : Type 0} (p : SourceGhosts P) (a : SourceGhosts A) (d : DiskGhosts D)
+    (o : SinkGhosts O) where
+  -- what these five show
+  abbrev pub outside : P → A → D → O → Stream → Outside
+  outside page arrivals disk out err = record {
+    page = supply p page;
+    arrivals = supply a arrivals;
+    shows = shown d o disk out;
+    err = err;
+  }
 
 -- nothing that disk and output show has changed but the counts of faults
 pub record Still (before after : Shown) : Type 0 where

@@ -2,6 +2,5 @@
 pub mod Reading
 pub mod Machine
 pub mod Run
-pub mod PlainState
-pub mod InputsState
 pub mod Tracing
+pub mod inner

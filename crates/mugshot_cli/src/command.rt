@@ -1,10 +1,13 @@
 // The words of a command line.
-ghost use Rattle.std.specs.Prelude.{◌≡◌, ◌≢◌, ◌↔◌, ◌≤◌, ℕ, List, [], ◌∷◌, decimal, map, IfOk, IsErrOf, IsTrue, MatchOption, string_bytes};
+ghost use Rattle.std.specs.Prelude.{◌≡◌, ◌≢◌, ◌↔◌, ◌≤◌, ℕ, List, [], ◌∷◌, decimal, map, IfOk};
+ghost use Rattle.std.specs.Prelude.{IsErrOf, IsTrue, MatchOption, string_bytes};
 ghost use Rattle.input_log.specs.declared.item.TheConstants.{STEPS_LIMIT};
-ghost use Rattle.mugshot_cli.specs.Command.{AreSteps, HasFiles, IsFileName, Spells, SpellsNone};
+ghost use Rattle.mugshot_cli.specs.Command.{AreSteps, IsFileName, Spells, SpellsNone};
+ghost use Rattle.mugshot_cli.specs.inner.Commands.{Asks, HasFiles, action_of};
+ghost use Rattle.mugshot_cli.specs.declared.command.UsageFault.TheVariants as usage_fault;
 
 use input_log::STEPS_LIMIT;
-use mug_text::{Bytes, decimal_below};
+use mug_text::{Bytes, NoMemory, decimal_below};
 use std::alloc::Global;
 use thiserror::Error;
 
@@ -37,8 +40,16 @@ pub enum UsageFault {
     NoMemory,
 }
 
-/// The budget where none is given.
-const STEPS: u64 = 10_000_000;
+impl From<NoMemory> for UsageFault {
+    ghost from_gives = { λ _ fault. fault ≡ usage_fault.NoMemory };
+
+    fn from(_error: NoMemory) -> UsageFault {
+        UsageFault::NoMemory
+    }
+}
+
+/// The budget where none is given, in page steps.
+pub const DEFAULT_STEPS: u64 = 10_000_000;
 
 fn is_file_name(word: &str) -> bool
     ensures { IsTrue result ↔ IsFileName word.now }
@@ -47,17 +58,15 @@ fn is_file_name(word: &str) -> bool
 }
 
 // A file's name.
-fn name_of(alloc: Global, word: &str) -> Result<Bytes, UsageFault>
+fn file_name(alloc: Global, word: &str) -> Result<Bytes, UsageFault>
     ensures ok { IfOk result (λ name. IsFileName name × (name ≡ word.now)) }
     ensures usage { IsErrOf result UsageFault.Usage → IsFileName word.now → ⊥ }
 {
     if !is_file_name(word) {
         return Err(UsageFault::Usage);
     }
-    match Bytes::of(alloc, word.as_bytes()) {
-        Ok(name) => Ok(name),
-        Err(_) => Err(UsageFault::NoMemory),
-    }
+    let name = Bytes::of(alloc, word.as_bytes())?;
+    Ok(name)
 }
 
 // The one file that the words name.
@@ -68,7 +77,7 @@ fn one_file(alloc: Global, words: &[String]) -> Result<Bytes, UsageFault>
         → map (λ word. string_bytes word) words.now ≢ name ∷ [] }
 {
     match words {
-        [word] => name_of(alloc, word),
+        [word] => file_name(alloc, word),
         _ => Err(UsageFault::Usage),
     }
 }
@@ -92,7 +101,7 @@ fn steps_of(words: &[String]) -> Option<u64>
         (λ n. AreSteps (map (λ word. string_bytes word) words.now) n) }
 {
     match words {
-        [] => Some(STEPS),
+        [] => Some(DEFAULT_STEPS),
         [option, spelled] => {
             if option.as_str() != "--steps" {
                 return None;
@@ -116,9 +125,9 @@ fn capture_of(alloc: Global, words: &[String]) -> Result<Command, UsageFault>
             let Some(steps) = steps_of(option) else {
                 return Err(UsageFault::Usage);
             };
-            let page = name_of(alloc, page)?;
-            let arrivals = name_of(alloc, arrivals)?;
-            let session = name_of(alloc, session)?;
+            let page = file_name(alloc, page)?;
+            let arrivals = file_name(alloc, arrivals)?;
+            let session = file_name(alloc, session)?;
             Ok(Command::Capture {
                 page,
                 arrivals,
@@ -152,4 +161,39 @@ pub fn read_words(alloc: Global, words: &[String]) -> Result<Command, UsageFault
         },
         _ => Err(UsageFault::Usage),
     }
+}
+
+/// What a command does, without the names of its files.
+#[derive(Clone, Copy, Debug, PartialEq, Eq)]
+pub enum Action {
+    List,
+    Replay,
+    /// With the budget in page steps.
+    Capture { steps: u64 },
+}
+
+fn action_of(command: Command) -> Action
+    ensures { result ≡ action_of command }
+{
+    match command {
+        Command::List { session: _ } => Action::List,
+        Command::Replay { session: _ } => Action::Replay,
+        Command::Capture {
+            page: _,
+            arrivals: _,
+            session: _,
+            steps,
+        } => Action::Capture { steps },
+    }
+}
+
+/// Reads what the words of a command line do.
+pub fn read_action(alloc: Global, words: &[String]) -> Result<Action, UsageFault>
+    ensures action { IfOk result
+        (λ action. Asks (map (λ word. string_bytes word) words.now) action) }
+    ensures usage { IsErrOf result UsageFault.Usage
+        → SpellsNone (map (λ word. string_bytes word) words.now) }
+{
+    let command = read_words(alloc, words)?;
+    Ok(action_of(command))
 }

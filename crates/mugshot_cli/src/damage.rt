@@ -1,10 +1,13 @@
 // A frame that doesn't read: one of a kind that isn't built yet, or a damaged one.
-ghost use Rattle.std.specs.Prelude.{◌≡◌, ◌↔◌, ℕ, ◌≤◌, List, IfOk, IfSome, IsErrOf, IsTrue, MatchOption};
+ghost use Rattle.std.specs.Prelude.{◌≡◌, ◌↔◌, ℕ, ◌≤◌, List, IfOk, IfSome, IsErrOf, IsTrue};
+ghost use Rattle.std.specs.Prelude.{MatchOption};
 ghost use Rattle.input_log.specs.Items.{BeginsWith, BeginsWithNone};
 ghost use Rattle.input_log.specs.declared.item.LogItem.{LogItem};
 ghost use Rattle.mug_outside.specs.Cause.{Rose};
 ghost use Rattle.session_store.specs.Recovery.{IsBroken};
 ghost use Rattle.mugshot_cli.specs.Sessions.{HasLaterKind, is_later_kind};
+ghost use Rattle.mugshot_cli.specs.inner.Refusals.{judge_of_frame};
+ghost use Rattle.mugshot_cli.specs.declared.damage.JudgeFault.TheVariants as judge_fault;
 
 use input_log::decode;
 use log_frames::{FrameFault, FrameReader, Next};
@@ -21,6 +24,25 @@ pub enum JudgeFault {
     DiskFault,
     #[error("out of memory")]
     NoMemory,
+}
+
+impl From<FrameFault> for JudgeFault {
+    ghost from_gives = { λ fault judged. judged ≡ judge_of_frame fault };
+
+    fn from(fault: FrameFault) -> JudgeFault {
+        match fault {
+            FrameFault::ReadFault => JudgeFault::DiskFault,
+            FrameFault::NoMemory => JudgeFault::NoMemory,
+        }
+    }
+}
+
+impl From<NoMemory> for JudgeFault {
+    ghost from_gives = { λ _ fault. fault ≡ judge_fault.NoMemory };
+
+    fn from(_error: NoMemory) -> JudgeFault {
+        JudgeFault::NoMemory
+    }
 }
 
 fn is_later_kind(byte: u8) -> bool
@@ -72,13 +94,11 @@ pub fn is_unbuilt<D: Disk>(alloc: Global, disk: &mut D, at: u64) -> Result<bool,
 {
     let mut payload = Vec::new(alloc);
     let mut reader = FrameReader::at(at.saturating_sub(1));
-    match reader.next(disk, &mut payload) {
-        Ok(Next::Frame { from: _ }) => match has_later_kind(alloc, &payload) {
-            Ok(unbuilt) => Ok(unbuilt),
-            Err(NoMemory) => Err(JudgeFault::NoMemory),
-        },
-        Ok(Next::End) => Ok(false),
-        Err(FrameFault::ReadFault) => Err(JudgeFault::DiskFault),
-        Err(FrameFault::NoMemory) => Err(JudgeFault::NoMemory),
+    match reader.next(disk, &mut payload)? {
+        Next::Frame { from: _ } => {
+            let unbuilt = has_later_kind(alloc, &payload)?;
+            Ok(unbuilt)
+        }
+        Next::End => Ok(false),
     }
 }

@@ -3,6 +3,7 @@
 
 mod capturing;
 mod command;
+mod counts;
 mod damage;
 mod lines;
 mod listing;
@@ -11,6 +12,7 @@ mod printing;
 mod refusal;
 mod replaying;
 mod session;
+mod sources;
 mod thin_page;
 mod top;
 

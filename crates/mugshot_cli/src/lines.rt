@@ -1,7 +1,9 @@
 // Lines on their way to an output, written many at a time.
-ghost use Rattle.std.specs.Prelude.{◌≡◌, ◌+◌, ◌≤◌, [], ◌++◌, length, decimal, OnErr, OnOk};
+ghost use Rattle.std.specs.Prelude.{◌≡◌, ◌+◌, ◌≤◌, [], ◌++◌, length, decimal, OnOk};
 ghost use Rattle.mugshot_cli.specs.Outside.{stream};
-ghost use Rattle.mugshot_cli.specs.Printing.{Puts, numbered_line};
+ghost use Rattle.mugshot_cli.specs.inner.Lines.{Puts};
+ghost use Rattle.mugshot_cli.specs.Printing.{numbered_line};
+ghost use Rattle.mugshot_cli.specs.declared.lines.PrintFault.TheVariants as print_fault;
 
 use itoa::Buffer;
 use mug_outside::{Sink, WriteFault, write_whole};
@@ -19,10 +21,16 @@ pub enum PrintFault {
     NoMemory,
 }
 
-impl From<NoMemory> for PrintFault {
-    ghost use Rattle.mugshot_cli.specs.declared.lines.PrintFault.TheVariants.{NoMemory as no_memory};
+impl From<WriteFault> for PrintFault {
+    ghost from_gives = { λ _ fault. fault ≡ print_fault.WriteFault };
 
-    ghost from_gives = { λ _ fault. fault ≡ no_memory };
+    fn from(_error: WriteFault) -> PrintFault {
+        PrintFault::WriteFault
+    }
+}
+
+impl From<NoMemory> for PrintFault {
+    ghost from_gives = { λ _ fault. fault ≡ print_fault.NoMemory };
 
     fn from(_error: NoMemory) -> PrintFault {
         PrintFault::NoMemory
@@ -85,10 +93,8 @@ impl Lines {
     {
         let wrote = write_whole(out, &self.bytes[..self.len]);
         self.len = 0;
-        match wrote {
-            Ok(()) => Ok(()),
-            Err(WriteFault) => Err(PrintFault::WriteFault),
-        }
+        wrote?;
+        Ok(())
     }
 
     // Writes what waits where so many bytes more don't fit.
@@ -110,10 +116,7 @@ impl Lines {
             (stream O.Sink out.new) }
     {
         self.flush(out)?;
-        match write_whole(out, text) {
-            Ok(()) => {}
-            Err(WriteFault) => return Err(PrintFault::WriteFault),
-        }
+        write_whole(out, text)?;
         Ok(())
     }
 

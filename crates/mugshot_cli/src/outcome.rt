@@ -1,17 +1,18 @@
 // What a command came to.
 ghost use Rattle.std.specs.Prelude.{◌≡◌};
-ghost use Rattle.mugshot_cli.specs.Outcome.{code_of, of_capture, of_fault, of_file, of_list, of_page, of_refusal, of_replay, of_run, status_of};
+ghost use Rattle.mugshot_cli.specs.Outcome.{code_of, of_capture, of_fault, of_file, of_list};
+ghost use Rattle.mugshot_cli.specs.Outcome.{of_page, of_refusal, of_replay, of_run, status_of};
 
-use crate::capturing::{ArrivalsRefusal, CaptureOutcome, PageRefusal};
+use crate::capturing::CaptureOutcome;
 use crate::listing::ListOutcome;
 use crate::replaying::ReplayOutcome;
 use crate::session::SessionRefusal;
+use crate::sources::{ArrivalsRefusal, PageRefusal};
 use crate::thin_page::end::Want;
 use crate::thin_page::recording::RunOutcome;
 use arrival_file::ArrivalKind;
 use capture_engine::CaptureFault;
 use input_log::Word;
-use session_store::StoreFault;
 
 /// What a command came to, with what its line says.
 #[derive(Clone, Copy, Debug, PartialEq, Eq)]
@@ -214,16 +215,13 @@ fn of_file(why: ArrivalsRefusal) -> Outcome
     }
 }
 
-// A store that is stopped has met a fault of the disk.
 fn of_fault(fault: CaptureFault) -> Outcome
     ensures { result ≡ of_fault fault }
 {
     match fault {
-        CaptureFault::Store(StoreFault::NotEmpty) => Outcome::NotEmpty,
-        CaptureFault::Store(StoreFault::Full) => Outcome::Full,
-        CaptureFault::Store(StoreFault::DiskFault) => Outcome::DiskFault,
-        CaptureFault::Store(StoreFault::Stopped) => Outcome::DiskFault,
-        CaptureFault::Store(StoreFault::NoMemory) => Outcome::NoMemory,
+        CaptureFault::NotEmpty => Outcome::NotEmpty,
+        CaptureFault::Full => Outcome::Full,
+        CaptureFault::DiskFault => Outcome::DiskFault,
         CaptureFault::WriteFault => Outcome::WriteFault,
         CaptureFault::NoMemory => Outcome::NoMemory,
     }

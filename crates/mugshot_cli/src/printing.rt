@@ -1,9 +1,9 @@
 // The lines of a list.
-ghost use Rattle.std.specs.Prelude.{◌≡◌, ℕ, List, length, codes, count_by, flat_map, IfOk};
+ghost use Rattle.std.specs.Prelude.{◌≡◌, count_by, flat_map, IfOk};
 ghost use Rattle.input_log.specs.Kinds.{is_input};
 ghost use Rattle.mugshot_cli.specs.Listing.{head_line, item_line, list_text, records_line};
 ghost use Rattle.mugshot_cli.specs.Outside.{stream};
-ghost use Rattle.mugshot_cli.specs.Printing.{Prints, Puts};
+ghost use Rattle.mugshot_cli.specs.inner.Lines.{Prints, Puts};
 
 use crate::lines::{Lines, PrintFault};
 use capture_engine::Line;

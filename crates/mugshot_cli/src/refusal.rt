@@ -1,7 +1,8 @@
 // The line of a refusal, made without memory.
-ghost use Rattle.std.specs.Prelude.{◌≡◌, ◌+◌, ◌≤◌, ◌++◌, length, codes, decimal};
+ghost use Rattle.std.specs.Prelude.{◌≡◌, ◌+◌, ◌≤◌, ◌++◌, length, decimal};
 ghost use Rattle.mugshot_cli.specs.Outside.{stream};
-ghost use Rattle.mugshot_cli.specs.Outcome.{TookLine, kind_text, line_of, refusal_line, want_text, word_text};
+ghost use Rattle.mugshot_cli.specs.Outcome.{TookLine, kind_text, line_of, refusal_line, want_text};
+ghost use Rattle.mugshot_cli.specs.Outcome.{word_text};
 ghost use Rattle.mugshot_cli.specs.declared.outcome.Outcome.{Outcome};
 
 use crate::outcome::Outcome;

@@ -1,5 +1,6 @@
 // Replays a session, and prints the trace.
-ghost use Rattle.std.specs.Prelude.{◌≡◌, ◌≤◌, ◌++◌, ℕ, List, [], ◌∷◌, length, IfErr, IfOk, IsErrOf, IfSome, OnOk, Option};
+ghost use Rattle.std.specs.Prelude.{◌≡◌, ◌≤◌, ◌++◌, ℕ, List, [], ◌∷◌, length, IfErr, IfOk, IsErrOf};
+ghost use Rattle.std.specs.Prelude.{IfSome, OnOk, Option};
 ghost use Rattle.input_log.specs.declared.item.LogItem.TheVariants.{Head};
 ghost use Rattle.input_log.specs.declared.item.TheConstants.{STEPS_LIMIT};
 ghost use Rattle.mug_outside.specs.Told.{behind};
@@ -8,11 +9,13 @@ ghost use Rattle.session_store.specs.Recovery.{Recovers, Whole};
 ghost use Rattle.capture_engine.specs.Acks.{text_of_lines};
 ghost use Rattle.capture_engine.specs.Outside.{seen, shown};
 ghost use Rattle.mugshot_cli.specs.Outside.{stream};
-ghost use Rattle.mugshot_cli.specs.Printing.{Adds, Broke, Puts};
-ghost use Rattle.mugshot_cli.specs.Replaying.{Replayed, ReplayDid, outcome_at};
-ghost use Rattle.mugshot_cli.specs.ThinPage.InputsState.{RanOut, replay_rest};
-ghost use Rattle.mugshot_cli.specs.ThinPage.Run.{from_inputs, visited};
-ghost use Rattle.mugshot_cli.specs.ThinPage.Tracing.{last_lines, trace_lines, trace_text};
+ghost use Rattle.mugshot_cli.specs.inner.Lines.{Adds, Broke, Puts};
+ghost use Rattle.mugshot_cli.specs.Replaying.{Replayed, ReplayDid};
+ghost use Rattle.mugshot_cli.specs.inner.Commands.{outcome_at};
+ghost use Rattle.mugshot_cli.specs.ThinPage.inner.InputsState.{RanOut, lines_left};
+ghost use Rattle.mugshot_cli.specs.ThinPage.Machine.{counts_of};
+ghost use Rattle.mugshot_cli.specs.ThinPage.Run.{from_inputs};
+ghost use Rattle.mugshot_cli.specs.ThinPage.Tracing.{last_lines, trace_text};
 
 use crate::lines::{Lines, PrintFault};
 use crate::session::{SessionRefusal, read_session, split_head};
@@ -59,11 +62,11 @@ fn put_steps<O: Sink>(
     ensures over { IfOk result (λ end. RanOut end run.old run.new) }
     ensures ok { IfOk result
         (λ end. Adds
-        (text_of_lines (trace_lines (visited (replay_rest run.old)))) lines.old lines.new
+        (text_of_lines (lines_left run.old)) lines.old lines.new
         (stream O.Sink out.old) (stream O.Sink out.new)) }
     ensures err { IfErr result
         (λ fault. Broke fault
-        (lines.old ++ text_of_lines (trace_lines (visited (replay_rest run.old))))
+        (lines.old ++ text_of_lines (lines_left run.old))
         (stream O.Sink out.old) (stream O.Sink out.new)) }
     ensures rose { IsErrOf result PrintFault.WriteFault
         → Rose (O.faults out.old) (O.faults out.new) }
@@ -72,10 +75,8 @@ fn put_steps<O: Sink>(
     'steps: loop {
         let turns = run.page().turns();
         let count = run.page().console().len();
-        match run.step() {
-            Ok(None) => {}
-            Ok(Some(end)) => return Ok(end),
-            Err(NoMemory) => return Err(PrintFault::NoMemory),
+        if let Some(end) = run.step()? {
+            return Ok(end);
         }
         put_step(lines, out, run.page(), turns, count)?;
     }
@@ -89,15 +90,16 @@ fn put_end<O: Sink>(
     run: &InputsRun,
 ) -> Result<(), PrintFault>
     ensures puts { Puts result
-        (text_of_lines (last_lines end run.now.state run.now.consumed)) lines.old lines.new
-        (stream O.Sink out.old) (stream O.Sink out.new) }
+        (text_of_lines (last_lines end run.now.state.turns (counts_of run.now.state)
+        run.now.consumed)) lines.old lines.new (stream O.Sink out.old) (stream O.Sink out.new) }
     ensures none { OnOk result (lines.new ≡ []) }
 {
     put_last(lines, out, end, run.page(), run.consumed())?;
     lines.flush(out)
 }
 
-// Runs a page over inputs, and prints the trace; the end, and the number of the inputs that were consumed.
+// Runs a page over inputs, and prints the trace; the end, and the number of the inputs that were
+// consumed.
 fn print_trace<O: Sink>(
     alloc: Global,
     out: &mut O,
@@ -121,10 +123,7 @@ fn print_trace<O: Sink>(
         → Rose (O.faults out.old) (O.faults out.new) }
     ensures later { O.faults out.old ≤ O.faults out.new }
 {
-    let mut run = match InputsRun::new(alloc, statements, inputs, budget) {
-        Ok(run) => run,
-        Err(NoMemory) => return Err(PrintFault::NoMemory),
-    };
+    let mut run = InputsRun::new(alloc, statements, inputs, budget)?;
     let mut lines = Lines::new();
     let end = put_steps(&mut lines, out, &mut run)?;
     put_end(&mut lines, out, end, &run)?;

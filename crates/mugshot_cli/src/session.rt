@@ -1,8 +1,10 @@
 // A session that is read, or why it isn't: the same for every command that reads one.
-ghost use Rattle.std.specs.Prelude.{◌≡◌, ◌≤◌, [], IfErr, IfOk, IfSome, MatchOption};
+ghost use Rattle.std.specs.Prelude.{◌≡◌, ℕ, ◌≤◌, List, [], IfErr, IfOk, IfSome, MatchOption};
 ghost use Rattle.session_store.specs.Session.{KeepsRules};
-ghost use Rattle.session_store.specs.Recovery.{IsWhole};
-ghost use Rattle.mugshot_cli.specs.Sessions.{BeginsWithHead, IsRefused};
+ghost use Rattle.session_store.specs.Recovery.{IsBroken, IsWhole};
+ghost use Rattle.mugshot_cli.specs.inner.Commands.{BeginsWithHead};
+ghost use Rattle.mugshot_cli.specs.Sessions.{IsRefused};
+ghost use Rattle.mugshot_cli.specs.inner.Refusals.{refusal_of_judge};
 
 use crate::damage::{JudgeFault, is_unbuilt};
 use input_log::LogItem;
@@ -23,6 +25,32 @@ pub enum SessionRefusal {
     NoMemory,
 }
 
+impl From<JudgeFault> for SessionRefusal {
+    ghost from_gives = { λ fault why. why ≡ refusal_of_judge fault };
+
+    fn from(fault: JudgeFault) -> SessionRefusal {
+        match fault {
+            JudgeFault::DiskFault => SessionRefusal::DiskFault,
+            JudgeFault::NoMemory => SessionRefusal::NoMemory,
+        }
+    }
+}
+
+// Why a session is not read whose frame at this offset doesn't read.
+fn judged<D: Disk>(alloc: Global, disk: &mut D, at: u64) -> SessionRefusal
+    ensures refused { IfSome (D.held disk.old) (λ h. (payload : List ℕ) × IsBroken h at payload)
+        → IsRefused result (D.held disk.old) (D.faults disk.old) (D.faults disk.new) }
+    ensures held { D.held disk.new ≡ D.held disk.old }
+    ensures moment { D.moment disk.new ≡ D.moment disk.old }
+    ensures later { D.faults disk.old ≤ D.faults disk.new }
+{
+    match is_unbuilt(alloc, disk, at) {
+        Ok(true) => SessionRefusal::NotBuilt,
+        Ok(false) => SessionRefusal::Damaged { at },
+        Err(fault) => SessionRefusal::from(fault),
+    }
+}
+
 /// Reads a session whole.
 pub fn read_session<D: Disk>(alloc: Global, disk: &mut D) -> Result<Session, SessionRefusal>
     ensures whole { IfOk result
@@ -36,12 +64,7 @@ pub fn read_session<D: Disk>(alloc: Global, disk: &mut D) -> Result<Session, Ses
     match recover(alloc, disk) {
         Ok(session) => Ok(session),
         Err(RecoverFault::NotASession) => Err(SessionRefusal::NotASession),
-        Err(RecoverFault::Damaged { at }) => match is_unbuilt(alloc, disk, at) {
-            Ok(true) => Err(SessionRefusal::NotBuilt),
-            Ok(false) => Err(SessionRefusal::Damaged { at }),
-            Err(JudgeFault::DiskFault) => Err(SessionRefusal::DiskFault),
-            Err(JudgeFault::NoMemory) => Err(SessionRefusal::NoMemory),
-        },
+        Err(RecoverFault::Damaged { at }) => Err(judged(alloc, disk, at)),
         Err(RecoverFault::DiskFault) => Err(SessionRefusal::DiskFault),
         Err(RecoverFault::NoMemory) => Err(SessionRefusal::NoMemory),
     }

@@ -17,7 +17,8 @@ EndsField (b ∷ more) = (b ≡ 32) ⊎ (b ≡ 10)
 
 -- the line of these fields
 abbrev pub seen : Fields → Line
-seen fields = record { word = fields.word.now; fields = fields.field.now ∷ []; after = fields.after.now }
+seen fields =
+    record { word = fields.word.now; fields = fields.field.now ∷ []; after = fields.after.now }
 
 -- a line of no field or of several
 pub record HasOtherCount (line : Line) : Type 0 where
@@ -25,11 +26,15 @@ pub record HasOtherCount (line : Line) : Type 0 where
 
 -- why a line with one field isn't there
 abbrev pub HasNone : Parsed Line → Stop → Type 0
-HasNone line stop = (line ≡ Err stop) ⊎ ((stop ≡ Breaks Form) × ((found : Line) × (line ≡ Ok found) × HasOtherCount found))
+HasNone line stop =
+    (line ≡ Err stop)
+    ⊎ ((stop ≡ Breaks Form) × ((found : Line) × (line ≡ Ok found) × HasOtherCount found))
 
 -- a line with one field is split
 abbrev pub Splits : Result Fields Stop → List ℕ → Type 0
-Splits result bytes = MatchResult result (λ fields. whole_line bytes ≡ Ok (seen fields)) (λ stop. HasNone (whole_line bytes) stop)
+Splits result bytes =
+    MatchResult result (λ fields. whole_line bytes ≡ Ok (seen fields))
+    (λ stop. HasNone (whole_line bytes) stop)
 
 -- a step gives what is expected, seen by `view`
 abbrev pub Gives : {T U : Type 0} → (T → U) → Result T Stop → Parsed U → Type 0

@@ -6,7 +6,8 @@ use Rattle.std.proofs.lemmas.List.{append_cancel_left}
 use Rattle.std.proofs.lemmas.List.Elements.{All-head, All-tail, All-nil, All-cons}
 use Rattle.std.proofs.lemmas.Str.Parse.{digit_from_value}
 use Rattle.mug_text.specs.declared.limits.TheConstants.{SAFE_END}
-use Rattle.mugshot_cli.specs.ThinPage.Reading.{EndsArgument, EndsDigits, HasArguments, IsArgument, IsDigit, argument_text}
+use Rattle.mugshot_cli.specs.ThinPage.inner.Parts.{EndsArgument, EndsDigits, HasArguments, IsDigit}
+use Rattle.mugshot_cli.specs.ThinPage.Reading.{IsArgument, argument_text}
 use Rattle.mugshot_cli.specs.declared.thin_page.reading.Argument.{Argument}
 use Rattle.mugshot_cli.specs.declared.thin_page.reading.Argument.TheVariants.{Now, Rand, Number}
 use Rattle.mugshot_cli.proofs.ThinPage.Joined.{Lists, Parts, joined_from_lists, lists_from_joined, other_front}

@@ -4,7 +4,7 @@ use Rattle.page_inputs.specs.declared.input.PageInput.{PageInput}
 use Rattle.page_inputs.specs.declared.input.PageInput.TheVariants.{Load, Now, Rand}
 use Rattle.mugshot_cli.specs.ThinPage.Machine.{State, advanced, asks, begun, contract, runs}
 use Rattle.mugshot_cli.specs.ThinPage.Run.{ends, follows, is_over, replay_from, steps}
-use Rattle.mugshot_cli.specs.ThinPage.InputsState.{EndsClock, EndsDraw, EndsIdle, ReplayState, Stepped, replay_rest}
+use Rattle.mugshot_cli.specs.ThinPage.inner.InputsState.{EndsClock, EndsDraw, EndsIdle, ReplayState, Stepped, replay_rest}
 use Rattle.mugshot_cli.specs.declared.thin_page.page.Move.{Move}
 use Rattle.mugshot_cli.specs.declared.thin_page.page.Move.TheVariants.{Pass, Clock, Draw, Print}
 use Rattle.mugshot_cli.specs.declared.thin_page.page.Question.TheVariants as question

@@ -10,7 +10,7 @@ use Rattle.page_inputs.specs.declared.input.PageInput.{PageInput}
 use Rattle.page_inputs.specs.declared.input.PageInput.TheVariants.{Load, Now, Rand}
 use Rattle.mugshot_cli.specs.ThinPage.Machine.{State, advanced, asks, begun, contract, runs}
 use Rattle.mugshot_cli.specs.ThinPage.Run.{Answers, Run, answer, answers_of, asked, ends, first_or, goes_on, is_finished, moment, plain_from, steps, used}
-use Rattle.mugshot_cli.specs.ThinPage.PlainState.{IsAhead, PlainState, rest_of}
+use Rattle.mugshot_cli.specs.ThinPage.inner.PlainState.{EndsAlike, EndsIn, IsAhead, PlainState, rest_of}
 use Rattle.mug_text.specs.declared.limits.TheConstants.{SAFE_END}
 use Rattle.page_inputs.specs.Inputs.{IsInput}
 use Rattle.mugshot_cli.specs.declared.thin_page.page.Move.{Move}
@@ -138,16 +138,42 @@ module _ (r old new : PlainState) (same : r ≡ old) (count : r.left ≡ new.lef
     draws_word w busy word value state answers =
         draw_by r.state.left w refl (ap (λ (x : PlainState). runs x.state.left) same ∙ busy) (ap (λ (x : PlainState). asks x.state.left) same ∙ word) value state answers
 
+-- ---- runs that end alike
+
+pub alike_same : (run : Run) → EndsAlike run run
+alike_same run = record { last_is = refl; end_is = refl; dropped_is = refl; counts_are = refl }
+
+pub alike_is : (run rest : Run) → run ≡ rest → EndsAlike run rest
+alike_is run rest is = subst (EndsAlike run) is (alike_same run)
+
+pub alike_then : (run mid rest : Run) → EndsAlike run mid → EndsAlike mid rest → EndsAlike run rest
+alike_then run mid rest a b = record {
+  last_is = a.last_is ∙ b.last_is;
+  end_is = a.end_is ∙ b.end_is;
+  dropped_is = a.dropped_is ∙ b.dropped_is;
+  counts_are = a.counts_are ∙ b.counts_are;
+}
+
+-- a step in front changes nothing of a run's end
+pub alike_after : (s : State) (inputs : List PageInput) (run mid rest : Run) → run ≡ steps s inputs mid → EndsAlike mid rest → EndsAlike run rest
+alike_after s inputs run mid rest is alike = alike_then run (steps s inputs mid) rest (alike_is run (steps s inputs mid) is)
+    (record { last_is = alike.last_is; end_is = alike.end_is; dropped_is = alike.dropped_is; counts_are = alike.counts_are })
+
+-- where the rest ends at once, the whole ends in this state
+pub ends_in : (whole : Run) (r : PlainState) (end : End) → EndsAlike whole (rest_of r) → rest_of r ≡ ends r.state end → EndsIn whole r
+ends_in whole r end alike is =
+    let same : end ≡ whole.end = sym (alike.end_is ∙ ap (λ (x : Run). x.end) is) in
+    record { alike = alike; end_is = is ∙ ap (ends r.state) same }
+
 -- a step more in front of a rest
 pub ahead_by : (s : State) (inputs more all : List PageInput) (run mid rest : Run) → run ≡ steps s inputs mid → IsAhead more mid rest → all ≡ inputs ++ more → IsAhead all run rest
 ahead_by s inputs more all run mid rest is ahead whole = record {
   inputs_are = ap (λ (r : Run). r.inputs) is ∙ ap (λ (l : List PageInput). inputs ++ l) ahead.inputs_are ∙ sym (append_assoc inputs more rest.inputs) ∙ ap (λ (l : List PageInput). l ++ rest.inputs) (sym whole);
-  last_is = ap (λ (r : Run). r.last) is ∙ ahead.last_is;
-  end_is = ap (λ (r : Run). r.end) is ∙ ahead.end_is;
+  alike = alike_after s inputs run mid rest is ahead.alike;
 }
 
 pub ahead_none : (run : Run) → IsAhead [] run run
-ahead_none run = record { inputs_are = refl; last_is = refl; end_is = refl }
+ahead_none run = record { inputs_are = refl; alike = alike_same run }
 
 -- the first value is in the range that all are in
 pub first_below : (n otherwise v : ℕ) (values : List ℕ) → v ≡ first_or otherwise values → otherwise < n → All (λ v. v < n) values → v < n

@@ -1,7 +1,8 @@
 -- The text of a statement is determined by the bytes, whatever stands behind it, and so are a page's statements.
 use Rattle.std.proofs.Common.{◌≡◌, ◌≢◌, ℕ, inl, inr, List, [], ◌∷◌, ◌++◌, drop, map, All, codes, Option, None, Some, Result, Ok, Err, IfOk, MatchOption, refl, sym, ◌∙◌, ap, subst, lit<, append_assoc}
 use Rattle.std.proofs.lemmas.List.{append_cancel_left}
-use Rattle.mugshot_cli.specs.ThinPage.Reading.{AreStatements, EndsScript, HasArguments, HasStatement, IsScript, IsStatement, IsThin, argument_text, joined, statement_text}
+use Rattle.mugshot_cli.specs.ThinPage.inner.Parts.{AreStatements, HasArguments, HasStatement}
+use Rattle.mugshot_cli.specs.ThinPage.Reading.{EndsScript, IsScript, IsStatement, IsThin, argument_text, joined, statement_text}
 use Rattle.mugshot_cli.specs.declared.thin_page.reading.Argument.{Argument}
 use Rattle.mugshot_cli.specs.declared.thin_page.reading.Statement.{Statement}
 use Rattle.mugshot_cli.specs.declared.thin_page.reading.Statement.TheVariants.{Now, Rand, Log}

@@ -1,5 +1,7 @@
--- A thin page: nothing, or a script of statements that take a reading or log their arguments, without white space.
-use Rattle.std.specs.Prelude.{◌≡◌, ◌≢◌, ◌⊎◌, ℕ, ◌<◌, ◌≤◌, List, [], ◌∷◌, ◌++◌, length, map, flat_map, All, codes, decimal}
+-- A thin page: nothing, or a script of statements that take a reading or log their arguments,
+-- without white space.
+use Rattle.std.specs.Prelude.{◌≡◌, ◌≢◌, ◌⊎◌, ℕ, ◌<◌, ◌≤◌, List, [], ◌∷◌, ◌++◌, length, map}
+use Rattle.std.specs.Prelude.{flat_map, All, codes, decimal}
 use Rattle.mug_text.specs.declared.limits.TheConstants.{SAFE_END}
 use Rattle.mugshot_cli.specs.declared.thin_page.reading.Argument.{Argument}
 use Rattle.mugshot_cli.specs.declared.thin_page.reading.Argument.TheVariants.{Now, Rand, Number}
@@ -26,19 +28,22 @@ IsArgument (Number n) = n < SAFE_END
 abbrev pub statement_text : Statement → List ℕ
 statement_text statement.Now = codes "Date.now()"
 statement_text statement.Rand = codes "Math.random()"
-statement_text (statement.Log arguments) = codes "console.log(" ++ (joined 44 (map argument_text arguments) ++ 41 ∷ [])
+statement_text (statement.Log arguments) =
+    codes "console.log(" ++ (joined 44 (map argument_text arguments) ++ 41 ∷ [])
 
 -- one to eight arguments
 abbrev pub IsStatement : Statement → Type 0
 IsStatement statement.Now = Unit {0}
 IsStatement statement.Rand = Unit {0}
-IsStatement (statement.Log arguments) = (arguments ≢ []) × (length arguments ≤ 8) × All IsArgument arguments
+IsStatement (statement.Log arguments) =
+    (arguments ≢ []) × (length arguments ≤ 8) × All IsArgument arguments
 
 -- a semicolon, 59, stands between statements
 abbrev pub written : List Statement → List ℕ
 written statements = joined 59 (map statement_text statements)
 
--- what may stand behind the last statement: the end of the script, with a semicolon before it or without
+-- what may stand behind the last statement: the end of the script, with a semicolon before it or
+-- without
 abbrev pub EndsScript : List ℕ → Type 0
 EndsScript end = (end ≡ codes "</script>") ⊎ (end ≡ codes ";</script>")
 
@@ -53,38 +58,3 @@ pub record IsScript (bytes : List ℕ) (statements : List Statement) : Type 0 wh
 -- the page of these statements
 abbrev pub IsThin : List ℕ → List Statement → Type 0
 IsThin bytes statements = ((bytes ≡ []) × (statements ≡ [])) ⊎ IsScript bytes statements
-
--- ---- its parts, as they stand in front of other bytes
-
-abbrev pub IsDigit : ℕ → Type 0
-IsDigit b = (48 ≤ b) × (b ≤ 57)
-
--- no digit stands there
-abbrev pub EndsDigits : List ℕ → Type 0
-EndsDigits [] = Unit {0}
-EndsDigits (b ∷ more) = (b < 48) ⊎ (57 < b)
-
--- a comma or a parenthesis stands there
-abbrev pub EndsArgument : List ℕ → Type 0
-EndsArgument [] = ⊥
-EndsArgument (b ∷ more) = (b ≡ 44) ⊎ (b ≡ 41)
-
--- in front stand the arguments of a call, up to its parenthesis
-pub record HasArguments (bytes : List ℕ) (arguments : List Argument) (more : List ℕ) : Type 0 where
-  pub some : arguments ≢ []
-  pub few : length arguments ≤ 8
-  pub valid : All IsArgument arguments
-  pub is : bytes ≡ joined 44 (map argument_text arguments) ++ 41 ∷ more
-
--- in front stands a statement
-pub record HasStatement (bytes : List ℕ) (found : Statement) (more : List ℕ) : Type 0 where
-  pub valid : IsStatement found
-  pub is : bytes ≡ statement_text found ++ more
-
--- statements, up to the end of the script
-pub record AreStatements (bytes : List ℕ) (statements : List Statement) : Type 0 where
-  pub some : statements ≢ []
-  pub valid : All IsStatement statements
-  pub end : List ℕ
-  pub ends : EndsScript end
-  pub is : bytes ≡ written statements ++ end

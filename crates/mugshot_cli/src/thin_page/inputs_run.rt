@@ -4,7 +4,9 @@ ghost use Rattle.input_log.specs.declared.item.TheConstants.{STEPS_LIMIT};
 ghost use Rattle.page_inputs.specs.declared.input.PageInput.TheVariants.{Load, Now, Rand};
 ghost use Rattle.mugshot_cli.specs.ThinPage.Machine.{State, asks, runs};
 ghost use Rattle.mugshot_cli.specs.ThinPage.Run.{from_inputs, is_over};
-ghost use Rattle.mugshot_cli.specs.ThinPage.InputsState.{EndsClock, EndsDraw, EndsIdle, Stepped, Went, replay_rest};
+ghost use Rattle.mugshot_cli.specs.ThinPage.inner.InputsState.{EndsClock, EndsDraw, EndsIdle};
+ghost use Rattle.mugshot_cli.specs.ThinPage.inner.InputsState.{Stepped};
+ghost use Rattle.mugshot_cli.specs.ThinPage.inner.InputsState.{Went, replay_rest};
 
 use crate::thin_page::end::{End, Want};
 use crate::thin_page::page::{Question, ThinPage};
@@ -28,11 +30,16 @@ pub struct InputsRun<'a> {
 impl<'a> Model for InputsRun<'a> {
     ghost use Rattle.std.specs.Prelude.{◌+◌, ◌≤◌};
     ghost use Rattle.input_log.specs.declared.item.TheConstants.{STEPS_LIMIT};
-    ghost use Rattle.mugshot_cli.specs.ThinPage.InputsState.{ReplayState};
+    ghost use Rattle.mugshot_cli.specs.ThinPage.inner.InputsState.{ReplayState};
 
     ghost Value = { ReplayState };
 
-    ghost view = { λ r. record { left = r.left; state = r.page; inputs = r.inputs.now; consumed = r.consumed } };
+    ghost view = { λ r. record {
+      left = r.left;
+      state = r.page;
+      inputs = r.inputs.now;
+      consumed = r.consumed;
+    } };
 
     ghost invariant = { λ r. (r.page.steps + r.left ≤ STEPS_LIMIT) × (r.consumed ≤ r.page.steps) };
 }

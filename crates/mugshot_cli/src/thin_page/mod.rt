@@ -1,4 +1,5 @@
-//! Thin pages, until the page loop takes their place: their statements, their turn, and their runs over arrivals and over inputs.
+//! Thin pages, until the page loop takes their place: their statements, their turn, and their runs
+//! over arrivals and over inputs.
 pub mod end;
 pub mod inputs_run;
 pub mod laws;

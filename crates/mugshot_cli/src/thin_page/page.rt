@@ -1,8 +1,12 @@
 // A thin page that runs, one step at a time.
-ghost use Rattle.std.specs.Prelude.{◌≡◌, ◌<◌, ◌++◌, true, drop, count_by, decimal, IfOk, OnOk, OnErr};
+ghost use Rattle.std.specs.Prelude.{◌≡◌, ◌<◌, ◌++◌, true, drop, count_by, decimal, IfOk, OnOk};
+ghost use Rattle.std.specs.Prelude.{OnErr};
 ghost use Rattle.input_log.specs.declared.item.TheConstants.{STEPS_LIMIT};
-ghost use Rattle.mugshot_cli.specs.ThinPage.Machine.{advanced, asks, begun, first_of, is_question, line_text, runs, spaced, start_state, values_of};
+ghost use Rattle.mugshot_cli.specs.ThinPage.Machine.{advanced, asks, begun, counts_of, first_of, is_question};
+ghost use Rattle.mugshot_cli.specs.ThinPage.Machine.{line_text, runs, spaced, start_state};
+ghost use Rattle.mugshot_cli.specs.ThinPage.Machine.{values_of};
 
+use crate::counts::Counts;
 use crate::thin_page::reading::{Argument, Statement};
 use crate::thin_page::turn_steps::turn_moves;
 use itoa::Buffer;
@@ -50,7 +54,15 @@ impl Model for ThinPage {
 
     ghost Value = { State };
 
-    ghost view = { λ p. record { turn = p.turn.items; steps = p.steps; turns = p.turns; clock = p.clock; left = drop p.at p.turn.items; given = p.given.items; console = p.console.items } };
+    ghost view = { λ p. record {
+      turn = p.turn.items;
+      steps = p.steps;
+      turns = p.turns;
+      clock = p.clock;
+      left = drop p.at p.turn.items;
+      given = p.given.items;
+      console = p.console.items;
+    } };
 
     ghost invariant = { λ p. (p.at ≤ length p.turn.items) × (p.turns ≤ p.steps) };
 }
@@ -210,11 +222,16 @@ impl ThinPage {
         Ok(())
     }
 
-    /// The number of page steps.
-    pub fn steps(&self) -> u64
-        ensures { result ≡ self.now.steps }
+    /// What is counted so far; a thin page has no inserted code.
+    pub fn counts(&self) -> Counts
+        ensures { result ≡ counts_of self.now }
     {
-        self.steps
+        Counts {
+            steps: self.steps,
+            hidden: 0,
+            calls: 0,
+            nested: 0,
+        }
     }
 
     /// The number of turns that were started.

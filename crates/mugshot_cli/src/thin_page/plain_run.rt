@@ -1,5 +1,6 @@
 // The run of a thin page over arrivals, as it is recorded.
-ghost use Rattle.std.specs.Prelude.{◌≡◌, ◌+◌, ◌≤◌, ◌<◌, ◌^◌, true, false, [], ◌∷◌, drop, All, IfOk, IfSome, OnOk, MatchOption, option_to_list};
+ghost use Rattle.std.specs.Prelude.{◌≡◌, ◌+◌, ◌≤◌, ◌<◌, true, false, [], ◌∷◌, drop, All, IfOk};
+ghost use Rattle.std.specs.Prelude.{IfSome, OnOk, MatchOption, option_to_list};
 ghost use Rattle.arrival_file.specs.Ranges.{IsInRange};
 ghost use Rattle.mugshot_cli.specs.ThinPage.Machine.{asks, runs};
 ghost use Rattle.input_log.specs.declared.item.TheConstants.{STEPS_LIMIT};
@@ -9,7 +10,7 @@ ghost use Rattle.page_inputs.specs.Inputs.{IsInput};
 ghost use Rattle.page_inputs.specs.declared.input.PageInput.TheVariants.{Now, Rand};
 ghost use Rattle.mugshot_cli.specs.ThinPage.Run.{ends, first_or, is_finished, moment, plain, steps};
 ghost use Rattle.mugshot_cli.specs.declared.thin_page.end.PlainEnd.{PlainEnd};
-ghost use Rattle.mugshot_cli.specs.ThinPage.PlainState.{IsAhead, RunsOn, rest_of, run_end};
+ghost use Rattle.mugshot_cli.specs.ThinPage.inner.PlainState.{IsAhead, RunsOn, rest_of, run_end};
 
 use crate::thin_page::end::PlainEnd;
 use crate::thin_page::page::{Question, ThinPage};
@@ -39,13 +40,20 @@ impl<'a> Model for PlainRun<'a> {
     ghost use Rattle.arrival_file.specs.declared.limits.TheConstants.{WORD_END};
     ghost use Rattle.arrival_file.specs.Ranges.{IsInRange};
     ghost use Rattle.input_log.specs.declared.item.TheConstants.{STEPS_LIMIT};
-    ghost use Rattle.mugshot_cli.specs.ThinPage.PlainState.{PlainState};
+    ghost use Rattle.mugshot_cli.specs.ThinPage.inner.PlainState.{PlainState};
 
     ghost Value = { PlainState };
 
-    ghost view = { λ r. record { left = r.left; state = r.page; answers = record { t = r.t; nows = r.nows.now; rands = r.rands.now }; arrivals = r.arrivals.now } };
+    ghost view = { λ r. record {
+      left = r.left;
+      state = r.page;
+      answers = record { t = r.t; nows = r.nows.now; rands = r.rands.now };
+      arrivals = r.arrivals.now;
+    } };
 
-    ghost invariant = { λ r. (r.page.steps + r.left ≤ STEPS_LIMIT) × (r.t < SAFE_END) × All (λ v. v < SAFE_END) r.nows.now × All (λ w. w < WORD_END) r.rands.now × All IsInRange r.arrivals.now };
+    ghost invariant = { λ r. (r.page.steps + r.left ≤ STEPS_LIMIT) × (r.t < SAFE_END)
+        × All (λ v. v < SAFE_END) r.nows.now × All (λ w. w < WORD_END) r.rands.now
+        × All IsInRange r.arrivals.now };
 }
 
 // The first of the values, or this one where there is none, and the others.
@@ -114,7 +122,6 @@ impl<'a> PlainRun<'a> {
     }
 
     /// How the run ends here, where it does.
-    #[tactic(auto, using(crate::proofs::ThinPage::PlainSteps::finished_ends, crate::proofs::ThinPage::PlainSteps::spent_ends))]
     pub fn end(&self) -> Option<PlainEnd>
         ensures { MatchOption result (RunsOn self.now)
             (λ end. rest_of self.now ≡ ends self.now.state (run_end end)) }

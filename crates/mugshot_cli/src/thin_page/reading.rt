@@ -1,6 +1,11 @@
 // A thin page: a script whose statements take a reading or log their arguments.
-ghost use Rattle.std.specs.Prelude.{◌≡◌, ◌≢◌, ◌↔◌, ℕ, ◌<◌, ◌^◌, List, ◌++◌, All, decimal, IfOk, IsTrue, MatchOption};
-ghost use Rattle.mugshot_cli.specs.ThinPage.Reading.{AreStatements, EndsArgument, EndsDigits, EndsScript, HasArguments, HasStatement, IsArgument, IsDigit, IsThin, argument_text};
+ghost use Rattle.std.specs.Prelude.{◌≡◌, ◌≢◌, ◌↔◌, ℕ, ◌<◌, List, ◌++◌, All, IfOk};
+ghost use Rattle.std.specs.Prelude.{IsTrue, MatchOption};
+ghost use Rattle.mugshot_cli.specs.ThinPage.inner.Parts.{AreStatements, EndsArgument, EndsDigits};
+ghost use Rattle.mugshot_cli.specs.ThinPage.Reading.{EndsScript};
+ghost use Rattle.mugshot_cli.specs.ThinPage.inner.Parts.{HasArguments, HasStatement};
+ghost use Rattle.mugshot_cli.specs.ThinPage.Reading.{IsArgument, IsThin, argument_text};
+ghost use Rattle.mugshot_cli.specs.ThinPage.inner.Parts.{IsDigit};
 ghost use Rattle.mugshot_cli.specs.declared.thin_page.reading.Argument.{Argument};
 ghost use Rattle.mugshot_cli.specs.declared.thin_page.reading.Statement.{Statement};
 

@@ -1,14 +1,17 @@
 // Records a run: its inputs in frames, and what they came to.
-ghost use Rattle.std.specs.Prelude.{◌≡◌, ℕ, List, [], length, Option, IfErr, OnOk};
+ghost use Rattle.std.specs.Prelude.{◌≡◌, ℕ, false, List, length, IfErr, OnOk};
 ghost use Rattle.page_inputs.specs.Inputs.{IsInput};
+ghost use Rattle.input_log.specs.Items.{IsItem};
+ghost use Rattle.input_log.specs.Kinds.{is_input};
 ghost use Rattle.input_log.specs.declared.item.LogItem.{LogItem};
-ghost use Rattle.session_store.specs.Keeping.{IsInside};
-ghost use Rattle.capture_engine.specs.Outside.{Shown, seen, shown};
-ghost use Rattle.capture_engine.specs.Recording.{Committed, inputs_in};
-ghost use Rattle.mugshot_cli.specs.Capturing.{RunDid, summary_line};
+ghost use Rattle.capture_engine.specs.Outside.{shown};
+ghost use Rattle.capture_engine.specs.Recording.{IsRunning, inputs_in};
+ghost use Rattle.mugshot_cli.specs.Capturing.{summary_line};
+ghost use Rattle.mugshot_cli.specs.Outside.{stream};
 ghost use Rattle.mugshot_cli.specs.ThinPage.Run.{Run};
-ghost use Rattle.mugshot_cli.specs.ThinPage.PlainState.{EndsIn, HaltsIn, IsOver, RecordsAll, rest_of, run_end};
-ghost use Rattle.mugshot_cli.specs.inner.Recording.{BeginHalts, Begins, InputHalts, LogsInput};
+ghost use Rattle.mugshot_cli.specs.ThinPage.inner.PlainState.{EndsIn, IsOver, rest_of, run_end};
+ghost use Rattle.mugshot_cli.specs.inner.Recording.{Begins, Finishes, HaltsIn, InputHalts, LogsInput};
+ghost use Rattle.mugshot_cli.specs.inner.Recording.{RecordsAll, RecordsRun, recorded_as};
 
 use crate::thin_page::end::PlainEnd;
 use crate::thin_page::plain_run::PlainRun;
@@ -16,8 +19,9 @@ use crate::thin_page::summary::Summary;
 use capture_engine::{CaptureFault, Line, Recorder};
 use input_log::LogItem;
 use mug_disk::Disk;
-use mug_outside::{Sink, WriteFault};
+use mug_outside::Sink;
 use page_inputs::PageInput;
+use std::alloc::Global;
 
 /// What a recording comes to.
 #[derive(Clone, Copy, Debug, PartialEq, Eq)]
@@ -35,11 +39,11 @@ fn begin<D: Disk, O: Sink>(
     out: &mut O,
     input: &PageInput,
 ) -> Result<(), CaptureFault>
-    requires { IsInside recorder.old.store (D.held disk.old) }
-    ensures inside { OnOk result (IsInside recorder.new.store (D.held disk.new)) }
+    requires { IsRunning recorder.old (D.held disk.old) }
+    ensures running { OnOk result (IsRunning recorder.new (D.held disk.new)) }
     ensures begins { OnOk result (Begins input.now (shown D.Disk O.Sink disk.old out.old)
         (shown D.Disk O.Sink disk.new out.new) recorder.old recorder.new) }
-    ensures halts { IfErr result (λ fault. BeginHalts input.now fault
+    ensures halts { IfErr result (λ fault. InputHalts input.now fault
         (shown D.Disk O.Sink disk.old out.old) (shown D.Disk O.Sink disk.new out.new)
         recorder.old) }
 {
@@ -56,9 +60,9 @@ fn log<D: Disk, O: Sink>(
     out: &mut O,
     input: &PageInput,
 ) -> Result<(), CaptureFault>
-    requires inside { IsInside recorder.old.store (D.held disk.old) }
+    requires running { IsRunning recorder.old (D.held disk.old) }
     requires valid { IsInput input.now }
-    ensures inside { OnOk result (IsInside recorder.new.store (D.held disk.new)) }
+    ensures running { OnOk result (IsRunning recorder.new (D.held disk.new)) }
     ensures logs { OnOk result (LogsInput input.now (shown D.Disk O.Sink disk.old out.old)
         (shown D.Disk O.Sink disk.new out.new) recorder.old recorder.new) }
     ensures halts { IfErr result (λ fault. InputHalts input.now fault
@@ -70,14 +74,14 @@ fn log<D: Disk, O: Sink>(
     Ok(())
 }
 
-/// Runs to the end, and commits the frames of the inputs, turn by turn.
-pub fn record_inputs<'a, D: Disk, O: Sink>(
+// Runs to the end, and commits the frames of the inputs, turn by turn.
+fn record_inputs<'a, D: Disk, O: Sink>(
     run: &mut PlainRun<'a>,
     recorder: &mut Recorder,
     disk: &mut D,
     out: &mut O,
 ) -> Result<(), CaptureFault>
-    requires inside { IsInside recorder.old.store (D.held disk.old) }
+    requires running { IsRunning recorder.old (D.held disk.old) }
     ensures records { OnOk result (RecordsAll (rest_of run.old).inputs
         (shown D.Disk O.Sink disk.old out.old) (shown D.Disk O.Sink disk.new out.new)
         recorder.old recorder.new) }
@@ -114,35 +118,63 @@ fn last_line<'a>(run: &PlainRun<'a>, recorder: &Recorder) -> Line
     let summary = Summary {
         end: end_of(run),
         turns: run.page().turns(),
-        steps: run.page().steps(),
+        dropped: 0, // A load is never dropped.
+        counts: run.page().counts(),
         inputs: recorder.inputs(),
         frames: recorder.frames(),
     };
     summary.line()
 }
 
-/// Writes the last line of a run that is over.
-pub fn finish<'a, O: Sink>(
+// Writes the last line of a run that is over, and gives its end.
+fn finish<'a, O: Sink>(
     run: &PlainRun<'a>,
     recorder: &Recorder,
+    out: &mut O,
+) -> Result<PlainEnd, CaptureFault>
+    requires { IsOver run.now }
+    ensures { Finishes result run.now recorder.now (stream O.Sink out.old) (stream O.Sink out.new) }
+{
+    last_line(run, recorder).write(out)?;
+    Ok(end_of(run))
+}
+
+// Records a run from its head to its last line.
+fn recorded<'a, D: Disk, O: Sink>(
+    alloc: Global,
+    head: &LogItem,
+    run: &mut PlainRun<'a>,
+    disk: &mut D,
+    out: &mut O,
+) -> Result<PlainEnd, CaptureFault>
+    requires valid { IsItem head.now }
+    requires alone { is_input head.now ≡ false }
+    ensures { (budget : ℕ)
+        → RecordsRun (recorded_as budget result) head.now budget (rest_of run.old)
+        (shown D.Disk O.Sink disk.old out.old) (shown D.Disk O.Sink disk.new out.new) }
+{
+    let mut recorder = Recorder::start(alloc, head, disk, out)?;
+    record_inputs(run, &mut recorder, disk, out)?;
+    finish(run, &recorder, out)
+}
+
+/// Records a run in a session on an empty disk, behind this head, which has this budget.
+pub fn record_run<'a, D: Disk, O: Sink>(
+    alloc: Global,
+    head: &LogItem,
+    run: &mut PlainRun<'a>,
     budget: u64,
+    disk: &mut D,
     out: &mut O,
 ) -> RunOutcome
-    requires { IsOver run.now }
-    ensures { (start : Shown) (whole : Run) (frames : List (List LogItem)) (held : Option (List ℕ))
-        (moment disk : ℕ)
-        → EndsIn whole run.now → inputs_in frames ≡ length whole.inputs
-        → Committed start
-        (seen held moment (O.taken out.old) disk (O.faults out.old)) frames [] recorder.now
-        → RunDid result budget whole frames start
-        (seen held moment (O.taken out.new) disk (O.faults out.new)) }
+    requires valid { IsItem head.now }
+    requires alone { is_input head.now ≡ false }
+    ensures { RecordsRun result head.now budget (rest_of run.old)
+        (shown D.Disk O.Sink disk.old out.old) (shown D.Disk O.Sink disk.new out.new) }
 {
-    match last_line(run, recorder).write(out) {
-        Ok(()) => {}
-        Err(WriteFault) => return RunOutcome::Halted(CaptureFault::WriteFault),
-    }
-    match end_of(run) {
-        PlainEnd::Budget => RunOutcome::Budget { steps: budget },
-        PlainEnd::Finished => RunOutcome::Done,
+    match recorded(alloc, head, run, disk, out) {
+        Ok(PlainEnd::Finished) => RunOutcome::Done,
+        Ok(PlainEnd::Budget) => RunOutcome::Budget { steps: budget },
+        Err(fault) => RunOutcome::Halted(fault),
     }
 }

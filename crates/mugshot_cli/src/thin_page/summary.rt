@@ -1,17 +1,19 @@
 // The last line of a capture.
 ghost use Rattle.std.specs.Prelude.{◌≡◌, ◌≤◌, length};
 ghost use Rattle.mugshot_cli.specs.Capturing.{end_word, summary};
-ghost use Rattle.mugshot_cli.specs.ThinPage.PlainState.{run_end};
+ghost use Rattle.mugshot_cli.specs.ThinPage.inner.PlainState.{run_end};
 
+use crate::counts::{Counts, push_counts};
 use crate::thin_page::end::PlainEnd;
 use capture_engine::Line;
 
-/// The numbers of a capture's last line.
+/// What a capture's last line says.
 #[derive(Clone, Copy, Debug, PartialEq, Eq)]
 pub struct Summary {
     pub end: PlainEnd,
     pub turns: u64,
-    pub steps: u64,
+    pub dropped: u64,
+    pub counts: Counts,
     pub inputs: u64,
     pub frames: u64,
 }
@@ -27,17 +29,18 @@ fn end_word(end: PlainEnd) -> &'static [u8]
 }
 
 impl Summary {
-    pub fn line(&self) -> Line
-        ensures { result ≡ summary
-            (run_end self.now.end) self.now.turns self.now.steps self.now.inputs self.now.frames }
+    pub fn line(self) -> Line
+        ensures { result ≡ summary (run_end self.end) self.turns self.dropped self.counts
+            self.inputs self.frames }
     {
         let mut line = Line::new();
         line.push(end_word(self.end));
         line.push(b" turns=");
         line.push_number(self.turns);
-        line.push(b" dropped=0 steps=");
-        line.push_number(self.steps);
-        line.push(b" hidden=0 calls=0 nested=0 inputs=");
+        line.push(b" dropped=");
+        line.push_number(self.dropped);
+        push_counts(&mut line, self.counts);
+        line.push(b" inputs=");
         line.push_number(self.inputs);
         line.push(b" frames=");
         line.push_number(self.frames);

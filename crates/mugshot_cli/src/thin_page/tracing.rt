@@ -1,10 +1,14 @@
 // The lines of a replay.
-ghost use Rattle.std.specs.Prelude.{◌≡◌, ◌≤◌, drop, flat_map, length};
+ghost use Rattle.std.specs.Prelude.{◌≡◌, ◌≤◌, drop, flat_map, length, MatchOption};
 ghost use Rattle.capture_engine.specs.Acks.{text_of_lines};
 ghost use Rattle.mugshot_cli.specs.Outside.{stream};
-ghost use Rattle.mugshot_cli.specs.Printing.{Puts};
-ghost use Rattle.mugshot_cli.specs.ThinPage.Tracing.{last_line, last_lines, log_line, step_lines, turn_line, turn_lines};
+ghost use Rattle.mugshot_cli.specs.inner.Lines.{Puts};
+ghost use Rattle.mugshot_cli.specs.ThinPage.Machine.{counts_of};
+ghost use Rattle.mugshot_cli.specs.ThinPage.Tracing.{last_line, last_lines, log_line, step_lines};
+ghost use Rattle.mugshot_cli.specs.ThinPage.Tracing.{turn_line, turn_lines};
+ghost use Rattle.mugshot_cli.specs.ThinPage.inner.LastLine.{HasLine, HasNoLine};
 
+use crate::counts::{Counts, push_counts};
 use crate::lines::{Lines, PrintFault};
 use crate::thin_page::end::End;
 use crate::thin_page::page::ThinPage;
@@ -25,18 +29,17 @@ fn turn_line(turns: u64, clock: u64) -> Line
     line
 }
 
-// `end turns=A steps=C hidden=0 calls=0 nested=0 inputs=G`, with its first word
-fn last_line(word: &[u8], turns: u64, steps: u64, inputs: u64) -> Line
+// `end turns=A steps=C hidden=D calls=E nested=F inputs=G`, with its first word
+fn last_line(word: &[u8], turns: u64, counts: Counts, inputs: u64) -> Line
     requires { length word.now ≤ 40 }
-    ensures { result ≡ last_line word.now turns steps inputs }
+    ensures { result ≡ last_line word.now turns counts inputs }
 {
     let mut line = Line::new();
     line.push(word);
     line.push(b" turns=");
     line.push_number(turns);
-    line.push(b" steps=");
-    line.push_number(steps);
-    line.push(b" hidden=0 calls=0 nested=0 inputs=");
+    push_counts(&mut line, counts);
+    line.push(b" inputs=");
     line.push_number(inputs);
     line.push(b"\n");
     line
@@ -100,21 +103,19 @@ pub fn put_step<O: Sink>(
     put_logs(lines, out, after(page.console(), count))
 }
 
-// The last line of a run, with its first word.
-fn put_last_line<O: Sink>(
-    lines: &mut Lines,
-    out: &mut O,
-    word: &[u8],
-    page: &ThinPage,
-    inputs: u64,
-) -> Result<(), PrintFault>
-    requires { length word.now ≤ 40 }
-    ensures { Puts result
-        (last_line word.now page.now.turns page.now.steps inputs) lines.old lines.new
-        (stream O.Sink out.old) (stream O.Sink out.new) }
+// The first word of the last line; a run that diverges has none.
+fn end_word(end: End) -> Option<&'static [u8]>
+    ensures { MatchOption result (HasNoLine end) (λ word. HasLine word.now end) }
 {
-    let line = last_line(word, page.turns(), page.steps(), inputs);
-    lines.put(out, line.as_slice())
+    match end {
+        End::Finished => Some(b"end"),
+        End::Cut => Some(b"cut"),
+        End::Budget => Some(b"budget"),
+        End::Diverged {
+            wanted: _,
+            found: _,
+        } => None,
+    }
 }
 
 /// The last line, by the run's end; a run that diverges has none.
@@ -125,16 +126,13 @@ pub fn put_last<O: Sink>(
     page: &ThinPage,
     inputs: u64,
 ) -> Result<(), PrintFault>
-    ensures { Puts result (text_of_lines (last_lines end page.now inputs)) lines.old lines.new
-        (stream O.Sink out.old) (stream O.Sink out.new) }
+    ensures { Puts result
+        (text_of_lines (last_lines end page.now.turns (counts_of page.now) inputs))
+        lines.old lines.new (stream O.Sink out.old) (stream O.Sink out.new) }
 {
-    match end {
-        End::Finished => put_last_line(lines, out, b"end", page, inputs),
-        End::Cut => put_last_line(lines, out, b"cut", page, inputs),
-        End::Budget => put_last_line(lines, out, b"budget", page, inputs),
-        End::Diverged {
-            wanted: _,
-            found: _,
-        } => Ok(()),
-    }
+    let Some(word) = end_word(end) else {
+        return Ok(());
+    };
+    let line = last_line(word, page.turns(), page.counts(), inputs);
+    lines.put(out, line.as_slice())
 }

@@ -1,7 +1,9 @@
 // The steps of a thin page's turn.
-ghost use Rattle.std.specs.Prelude.{◌≡◌, ◌++◌, List, [], ◌∷◌, flat_map, IfOk, OnOk};
-ghost use Rattle.mugshot_cli.specs.ThinPage.Machine.{argument_moves, script_moves, statement_moves, turn_moves};
-ghost use Rattle.mugshot_cli.specs.declared.thin_page.page.Move.TheVariants.{Pass, Clock, Draw, Print};
+ghost use Rattle.std.specs.Prelude.{◌≡◌, ◌++◌, [], ◌∷◌, flat_map, IfOk, OnOk};
+ghost use Rattle.mugshot_cli.specs.ThinPage.Machine.{argument_moves, script_moves, statement_moves};
+ghost use Rattle.mugshot_cli.specs.ThinPage.Machine.{turn_moves};
+ghost use Rattle.mugshot_cli.specs.declared.thin_page.page.Move.TheVariants.{Pass, Clock, Draw};
+ghost use Rattle.mugshot_cli.specs.declared.thin_page.page.Move.TheVariants.{Print};
 
 use crate::thin_page::page::Move;
 use crate::thin_page::reading::{Argument, Statement};

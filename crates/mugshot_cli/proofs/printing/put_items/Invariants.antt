@@ -2,7 +2,7 @@ use Rattle.std.proofs.Common.{◌≤◌, take}
 use Rattle.std.specs.List.{flat_map}
 use Rattle.mugshot_cli.specs.Listing.{item_line}
 use Rattle.mugshot_cli.specs.Outside.{stream}
-use Rattle.mugshot_cli.specs.Printing.{Adds}
+use Rattle.mugshot_cli.specs.inner.Lines.{Adds}
 use Rattle.mugshot_cli.proofs.printing.put_items.Given as goal
 
 abbrev pub invariant-loop-item : goal.invariant-loop-item

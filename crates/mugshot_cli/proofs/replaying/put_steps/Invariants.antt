@@ -1,8 +1,8 @@
 use Rattle.std.proofs.Common.{◌≤◌, List, ℕ}
 use Rattle.capture_engine.specs.Acks.{text_of_lines}
 use Rattle.mugshot_cli.specs.Outside.{stream}
-use Rattle.mugshot_cli.specs.Printing.{Adds}
-use Rattle.mugshot_cli.specs.ThinPage.InputsState.{IsTraced}
+use Rattle.mugshot_cli.specs.inner.Lines.{Adds}
+use Rattle.mugshot_cli.specs.ThinPage.inner.InputsState.{IsTraced}
 use Rattle.mugshot_cli.proofs.replaying.put_steps.Given as goal
 
 abbrev pub invariant-steps : goal.invariant-steps

@@ -1,5 +1,6 @@
 use Rattle.std.proofs.Common.{◌≡◌, ◌∙◌, ◌∷◌, [], ◌++◌, ◌≤◌, List, ℕ, length, refl, sym, ap, subst, arith, lit<, rules, inr, length-append}
-use Rattle.mugshot_cli.specs.ThinPage.Reading.{HasArguments, IsArgument, argument_text}
+use Rattle.mugshot_cli.specs.ThinPage.inner.Parts.{HasArguments}
+use Rattle.mugshot_cli.specs.ThinPage.Reading.{IsArgument, argument_text}
 use Rattle.mugshot_cli.specs.declared.thin_page.reading.Argument.{Argument}
 use Rattle.mugshot_cli.proofs.ThinPage.Arguments.{EndsCall, arguments, has_arguments, listed}
 use Rattle.mugshot_cli.proofs.ThinPage.Joined.{Reached, longer, not_begun, other_front, reached_end, reached_more}

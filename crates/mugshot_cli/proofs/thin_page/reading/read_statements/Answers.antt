@@ -1,5 +1,6 @@
 use Rattle.std.proofs.Common.{◌≡◌, ◌∙◌, ◌∷◌, [], ◌++◌, List, ℕ, IsTrue, true, false, sym, ap, subst, rules}
-use Rattle.mugshot_cli.specs.ThinPage.Reading.{AreStatements, EndsScript, IsStatement, statement_text}
+use Rattle.mugshot_cli.specs.ThinPage.inner.Parts.{AreStatements}
+use Rattle.mugshot_cli.specs.ThinPage.Reading.{EndsScript, IsStatement, statement_text}
 use Rattle.mugshot_cli.specs.declared.thin_page.reading.Statement.{Statement}
 use Rattle.mugshot_cli.proofs.ThinPage.Joined.{Reached, not_begun, not_behind, reached_end, reached_more}
 use Rattle.mugshot_cli.proofs.ThinPage.Statements.{are_statements, listed, statements}

@@ -1,6 +1,6 @@
 use Rattle.std.proofs.Common.{arith}
 use Rattle.std.proofs.lemmas.List.Elements.{All-more}
-use Rattle.mugshot_cli.specs.ThinPage.Reading.{IsDigit}
+use Rattle.mugshot_cli.specs.ThinPage.inner.Parts.{IsDigit}
 use Rattle.mugshot_cli.proofs.thin_page.reading.split_digits.Goals as goal
 
 pub loop-len-preserved : goal.loop-len-preserved

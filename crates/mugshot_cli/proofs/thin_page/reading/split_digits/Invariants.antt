@@ -1,5 +1,5 @@
 use Rattle.std.proofs.Common.{length, take, All, ◌-◌, ◌≤◌}
-use Rattle.mugshot_cli.specs.ThinPage.Reading.{IsDigit}
+use Rattle.mugshot_cli.specs.ThinPage.inner.Parts.{IsDigit}
 use Rattle.mugshot_cli.proofs.thin_page.reading.split_digits.Given as goal
 
 abbrev pub invariant-loop-len : goal.invariant-loop-len

@@ -1,7 +1,7 @@
 use Rattle.std.proofs.Common.{◌≤◌, take}
 use Rattle.std.specs.List.{flat_map}
 use Rattle.mugshot_cli.specs.Outside.{stream}
-use Rattle.mugshot_cli.specs.Printing.{Adds}
+use Rattle.mugshot_cli.specs.inner.Lines.{Adds}
 use Rattle.mugshot_cli.specs.ThinPage.Tracing.{log_line}
 use Rattle.mugshot_cli.proofs.thin_page.tracing.put_logs.Given as goal
 

@@ -1,5 +1,5 @@
 use Rattle.std.proofs.Common.{refl, arith, ap}
-use Rattle.mugshot_cli.specs.ThinPage.InputsState.{ReplayState}
+use Rattle.mugshot_cli.specs.ThinPage.inner.InputsState.{ReplayState}
 use Rattle.mugshot_cli.proofs.ThinPage.InputsSteps.{passes}
 use Rattle.mugshot_cli.proofs.thin_page.inputs_run.InputsRun.pass.Goals as goal
 

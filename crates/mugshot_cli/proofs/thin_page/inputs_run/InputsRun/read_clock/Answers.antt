@@ -1,6 +1,6 @@
 use Rattle.std.proofs.Common.{◌≤◌, refl, ◌∙◌, arith, ap}
 use Rattle.mugshot_cli.specs.ThinPage.Machine.{asks}
-use Rattle.mugshot_cli.specs.ThinPage.InputsState.{ReplayState}
+use Rattle.mugshot_cli.specs.ThinPage.inner.InputsState.{ReplayState}
 use Rattle.mugshot_cli.proofs.ThinPage.InputsSteps.{clock_ends, ends_as, reads_clock}
 use Rattle.mugshot_cli.proofs.thin_page.inputs_run.InputsRun.read_clock.Goals as goal
 

@@ -1,6 +1,6 @@
 use Rattle.std.proofs.Common.{◌≡◌, ◌≢◌, ◌≤◌, refl, ◌∙◌, arith, ap}
 use Rattle.mugshot_cli.specs.ThinPage.Machine.{runs}
-use Rattle.mugshot_cli.specs.ThinPage.InputsState.{ReplayState}
+use Rattle.mugshot_cli.specs.ThinPage.inner.InputsState.{ReplayState}
 use Rattle.mugshot_cli.proofs.ThinPage.InputsSteps.{ends_as, idle_ends, turn_begins}
 use Rattle.mugshot_cli.proofs.thin_page.inputs_run.InputsRun.start_turn.Goals as goal
 

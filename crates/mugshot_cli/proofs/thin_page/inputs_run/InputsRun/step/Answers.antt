@@ -1,5 +1,5 @@
 use Rattle.std.proofs.Common.{refl, sym, arith, ap}
-use Rattle.mugshot_cli.specs.ThinPage.InputsState.{ReplayState}
+use Rattle.mugshot_cli.specs.ThinPage.inner.InputsState.{ReplayState}
 use Rattle.mugshot_cli.proofs.ThinPage.InputsSteps.{over_ends, spent_ends}
 use Rattle.mugshot_cli.proofs.thin_page.inputs_run.InputsRun.step.Goals as goal
 

@@ -1,6 +1,6 @@
 use Rattle.std.proofs.Common.{ℕ, List, refl, arith, ap}
 use Rattle.arrival_file.specs.declared.limits.TheConstants.{WORD_END}
-use Rattle.mugshot_cli.specs.ThinPage.PlainState.{PlainState}
+use Rattle.mugshot_cli.specs.ThinPage.inner.PlainState.{PlainState}
 use Rattle.mugshot_cli.proofs.ThinPage.PlainSteps.{first_below, draws_word}
 use Rattle.mugshot_cli.proofs.thin_page.plain_run.PlainRun.draw.Goals as goal
 

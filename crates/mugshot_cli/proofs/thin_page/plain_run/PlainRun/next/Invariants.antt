@@ -1,5 +1,5 @@
 use Rattle.std.proofs.Common.{[]}
-use Rattle.mugshot_cli.specs.ThinPage.PlainState.{IsAhead, rest_of}
+use Rattle.mugshot_cli.specs.ThinPage.inner.PlainState.{IsAhead, rest_of}
 use Rattle.mugshot_cli.proofs.thin_page.plain_run.PlainRun.next.Given as goal
 
 abbrev pub invariant-steps : goal.invariant-steps

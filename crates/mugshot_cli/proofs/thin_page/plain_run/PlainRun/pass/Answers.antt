@@ -1,5 +1,5 @@
 use Rattle.std.proofs.Common.{refl, arith, ap}
-use Rattle.mugshot_cli.specs.ThinPage.PlainState.{PlainState}
+use Rattle.mugshot_cli.specs.ThinPage.inner.PlainState.{PlainState}
 use Rattle.mugshot_cli.proofs.ThinPage.PlainSteps.{passes}
 use Rattle.mugshot_cli.proofs.thin_page.plain_run.PlainRun.pass.Goals as goal
 

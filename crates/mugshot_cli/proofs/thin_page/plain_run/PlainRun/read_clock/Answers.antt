@@ -1,6 +1,6 @@
 use Rattle.std.proofs.Common.{ℕ, List, refl, arith, ap}
 use Rattle.mug_text.specs.declared.limits.TheConstants.{SAFE_END}
-use Rattle.mugshot_cli.specs.ThinPage.PlainState.{PlainState}
+use Rattle.mugshot_cli.specs.ThinPage.inner.PlainState.{PlainState}
 use Rattle.mugshot_cli.proofs.ThinPage.PlainSteps.{first_below, reads_clock}
 use Rattle.mugshot_cli.proofs.thin_page.plain_run.PlainRun.read_clock.Goals as goal
 

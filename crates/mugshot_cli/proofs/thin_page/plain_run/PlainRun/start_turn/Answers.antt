@@ -3,7 +3,7 @@ use Rattle.std.specs.Prelude.{All}
 use Rattle.mugshot_cli.specs.ThinPage.Machine.{State}
 use Rattle.mug_text.specs.declared.limits.TheConstants.{SAFE_END}
 use Rattle.arrival_file.specs.declared.limits.TheConstants.{WORD_END}
-use Rattle.mugshot_cli.specs.ThinPage.PlainState.{PlainState}
+use Rattle.mugshot_cli.specs.ThinPage.inner.PlainState.{PlainState}
 use Rattle.mugshot_cli.proofs.ThinPage.PlainSteps.{first_range, other_ranges, timely, turn_begins}
 use Rattle.mugshot_cli.proofs.thin_page.plain_run.PlainRun.start_turn.Goals as goal
 

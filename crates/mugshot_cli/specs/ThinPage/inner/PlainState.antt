@@ -1,14 +1,7 @@
 -- What the code of the runs keeps.
-use Rattle.std.specs.Prelude.{◌≡◌, ◌⊎◌, ℕ, ◌≤◌, false, List, [], ◌++◌, map}
+use Rattle.std.specs.Prelude.{◌≡◌, ◌⊎◌, ℕ, ◌≤◌, false, List, ◌++◌}
 use Rattle.arrival_file.specs.declared.arrival.Arrival.{Arrival}
-use Rattle.page_inputs.specs.Turns.{turns}
 use Rattle.page_inputs.specs.declared.input.PageInput.{PageInput}
-use Rattle.input_log.specs.Inputs.{logged}
-use Rattle.input_log.specs.declared.item.LogItem.{LogItem}
-use Rattle.capture_engine.specs.Frames.{AreFramesOf}
-use Rattle.capture_engine.specs.Outside.{Shown}
-use Rattle.capture_engine.specs.Recording.{Halted, Recorded, RecorderState}
-use Rattle.capture_engine.specs.declared.recorder.CaptureFault.{CaptureFault}
 use Rattle.mugshot_cli.specs.ThinPage.Machine.{State}
 use Rattle.mugshot_cli.specs.declared.thin_page.end.End.{End}
 use Rattle.mugshot_cli.specs.declared.thin_page.end.End.TheVariants.{Finished, Budget}
@@ -16,12 +9,20 @@ use Rattle.mugshot_cli.specs.declared.thin_page.end.PlainEnd.{PlainEnd}
 use Rattle.mugshot_cli.specs.declared.thin_page.end.PlainEnd.TheVariants as plain_end
 use Rattle.mugshot_cli.specs.ThinPage.Run.{Answers, Run, ends, is_finished, plain_from}
 
--- a run over arrivals: the page steps that are left, the state, and what is left of answers and arrivals
+-- a run over arrivals: the page steps that are left, the state, and what is left of answers and
+-- arrivals
 pub record PlainState : Type 0 where
   pub left : ℕ
   pub state : State
   pub answers : Answers
   pub arrivals : List Arrival
+
+-- two runs end alike
+pub record EndsAlike (run rest : Run) : Type 0 where
+  pub last_is : run.last ≡ rest.last
+  pub end_is : run.end ≡ rest.end
+  pub dropped_is : run.dropped ≡ rest.dropped
+  pub counts_are : run.counts ≡ rest.counts
 
 -- the rest of the run
 abbrev pub rest_of : PlainState → Run
@@ -35,12 +36,11 @@ pub record RunsOn (r : PlainState) : Type 0 where
 -- one run is another's rest, after these inputs
 pub record IsAhead (inputs : List PageInput) (run rest : Run) : Type 0 where
   pub inputs_are : run.inputs ≡ inputs ++ rest.inputs
-  pub last_is : run.last ≡ rest.last
-  pub end_is : run.end ≡ rest.end
+  pub alike : EndsAlike run rest
 
 -- a run ends in this state
 pub record EndsIn (run : Run) (r : PlainState) : Type 0 where
-  pub last_is : run.last ≡ r.state
+  pub alike : EndsAlike run (rest_of r)
   pub end_is : rest_of r ≡ ends r.state run.end
 
 -- the ends of a run over arrivals
@@ -55,17 +55,3 @@ run_end plain_end.Budget = Budget
 -- the run is over, and this is its end
 abbrev pub IsOver : PlainState → Type 0
 IsOver r = (whole : Run) × EndsIn whole r
-
--- ---- the recording of a run
-
--- after its head these inputs are recorded, and their last turn is over
-abbrev pub RecordsAll : List PageInput → Shown → Shown → RecorderState → RecorderState → Type 0
-RecordsAll inputs now now' r r' =
-    (start : Shown) (head : LogItem) → Recorded start now head [] [] r
-    → Recorded start now' head (map logged (turns inputs)) [] r'
-
--- their recording was halted
-abbrev pub HaltsIn : List PageInput → CaptureFault → Shown → Shown → RecorderState → Type 0
-HaltsIn inputs fault now now' r =
-    (start : Shown) (head : LogItem) (frames : List (List LogItem)) → Recorded start now head [] [] r
-    → AreFramesOf head inputs frames → Halted fault start now' frames
