@@ -11,7 +11,7 @@ use Rattle.dom_tree.proofs.Ways.{way_step}
 use Rattle.dom_tree.proofs.Kids.{stands, unequal, times_yes}
 use Rattle.dom_tree.proofs.Sides.{next_at, first_stands}
 use Rattle.dom_tree.proofs.Kept.{parent_of_child}
-use Rattle.dom_tree.proofs.Walks.{way_none, parent_is, once_is, child_of, inside_from, depth, depth_step, depth_top, remaining, down, up, over, hit_first, miss_first}
+use Rattle.dom_tree.proofs.Walks.{way_none, parent_is, once_is, child_of, inside_from, depth, depth_step, depth_top, remaining, start, down, up, over, hit_first, miss_first}
 
 none_some : {P : Type 0} (x : ℕ) → None ≡ Some x → P
 none_some x is = absurd cc
@@ -224,6 +224,21 @@ module _ (nodes : List DomNode) (fits : Fits nodes) where
 
       pub walk_smaller : length (remaining nodes y 0) < length (remaining nodes x 0)
       walk_smaller = let e : length (remaining nodes x 0) ≡ suc (length (remaining nodes y 0)) = ap length next_is in omega arith
+
+-- the walk, asked again and again
+walked : (nodes : List DomNode) → Fits nodes → (k : ℕ) (o : Option ℕ) → length (walk_from nodes o) ≤ k → way_up (next_within nodes 0) k o ≡ walk_from nodes o
+walked nodes fits k None within = way_none (next_within nodes 0) k
+walked nodes fits zero (Some x) within = absurd (omega arith)
+walked nodes fits (suc k) (Some x) within =
+    let on = walk_on nodes fits x in
+    let shorter : length (walk_from nodes (next_within nodes 0 x)) ≤ k = let e = ap length on in omega arith in
+    ap (λ l. x ∷ l) (walked nodes fits k (next_within nodes 0 x) shorter ∙ sym on)
+
+pub walk_ordered : (nodes : List DomNode) (times : ℕ) → Fits nodes → length (in_order nodes) ≤ times → way_up (next_within nodes 0) times (Some 0) ≡ in_order nodes
+walk_ordered nodes times fits within =
+    let begins = start nodes fits in
+    let long : length (walk_from nodes (Some 0)) ≤ times = let e = ap length begins in omega arith in
+    walked nodes fits times (Some 0) long ∙ sym begins
 
 -- ---- in the document
 

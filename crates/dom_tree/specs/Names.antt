@@ -14,10 +14,13 @@ abbrev pub value_named : List ℕ → List DocAttribute → Option (List ℕ)
 value_named name [] = None
 value_named name (a ∷ more) = if bytes_eq a.name name then Some a.value else value_named name more
 
--- the attributes, where the one of this name has this value; it stands behind the others if there was none
+-- the attributes, where the one of this name has this value; it stands behind the others if there
+-- was none
 abbrev pub with_value : List ℕ → List ℕ → List DocAttribute → List DocAttribute
 with_value name value [] = record { name = name; value = value } ∷ []
-with_value name value (a ∷ more) = if bytes_eq a.name name then record { name = a.name; value = value } ∷ more else a ∷ with_value name value more
+with_value name value (a ∷ more) =
+    if bytes_eq a.name name then record { name = a.name; value = value } ∷ more
+    else a ∷ with_value name value more
 
 -- the attributes without those of this name
 abbrev pub without_name : List ℕ → List DocAttribute → List DocAttribute
@@ -34,7 +37,13 @@ keeps_value (Text text) = false
 
 -- a node outside the document, without children and attributes; a value that it keeps is empty
 abbrev pub fresh : Kind → DomNode
-fresh kind = record { kind = kind; parent = None; children = []; attributes = []; value = if keeps_value kind then Some [] else None }
+fresh kind = record {
+  kind = kind;
+  parent = None;
+  children = [];
+  attributes = [];
+  value = if keeps_value kind then Some [] else None;
+}
 
 abbrev pub kind_of_new : NewNode → Kind
 kind_of_new (new_element name) = Element name

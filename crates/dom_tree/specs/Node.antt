@@ -4,7 +4,8 @@ use Rattle.html_profile.specs.declared.document.DocAttribute.{DocAttribute}
 use Rattle.dom_tree.specs.declared.parts.Kind.{Kind}
 use Rattle.dom_tree.specs.declared.parts.NodeData.{NodeData}
 
--- what a document has of a node: the document itself, and the root of a tree outside it, has no parent; an input or a textarea has a value
+-- what a document has of a node: the document itself, and the root of a tree outside it, has no
+-- parent; an input or a textarea has a value
 pub record DomNode : Type 0 where
   pub kind : Kind
   pub parent : Option ℕ
@@ -14,4 +15,10 @@ pub record DomNode : Type 0 where
 
 -- the node that is kept so, with these children
 abbrev pub node_with : List ℕ → NodeData → DomNode
-node_with children d = record { kind = d.kind; parent = d.parent; children = children; attributes = d.attributes; value = d.value }
+node_with children d = record {
+  kind = d.kind;
+  parent = d.parent;
+  children = children;
+  attributes = d.attributes;
+  value = d.value;
+}

@@ -1,5 +1,7 @@
--- A document as the list of its nodes (DOM Standard, 4.2, 4.4 and 4.9, in a profile: no doctypes, comments, fragments or shadow trees).
--- A node's number is its place in the list, and number 0 is the document. A node whose parent is none is outside the document, or the document.
+-- A document as the list of its nodes (DOM Standard, 4.2, 4.4 and 4.9, in a profile: no doctypes,
+-- comments, fragments or shadow trees).
+-- A node's number is its place in the list, and number 0 is the document. A node whose parent is
+-- none is outside the document, or the document.
 use Rattle.std.specs.Prelude.{◌≡◌, ℕ, zero, suc, ◌+◌, ◌<◌, ◌==◌, Bool, false, true, cond, List, [], ◌∷◌, length, Option, Some, None, is_some, slice_get, ◌||◌}
 use Rattle.std.specs.List.{list_any}
 use Rattle.dom_tree.specs.Names.{keeps_value_in}
@@ -61,7 +63,8 @@ is_one x (Some y) = y == x
 abbrev pub is_child : List DomNode → ℕ → ℕ → Bool
 is_child nodes parent child = is_one parent (parent_of nodes child)
 
--- the way up from here: this node, what stands above it, and so on, as far as it goes, but no more than so many nodes
+-- the way up from here: this node, what stands above it, and so on, as far as it goes, but no more
+-- than so many nodes
 abbrev pub way_up : (ℕ → Option ℕ) → ℕ → Option ℕ → List ℕ
 way_up above zero x = []
 way_up above (suc k) None = []
@@ -78,16 +81,18 @@ Ends above (suc k) (Some x) = Ends above k (above x)
 abbrev pub ancestors : List DomNode → ℕ → List ℕ
 ancestors nodes x = way_up (parent_of nodes) (length nodes) (parent_of nodes x)
 
--- the nodes make trees: the document is number 0, is the only one and has no parent; an input or a textarea keeps a value, and no other
--- node; a node stands once among its parent's children, and among no other node's; every parent is there and is no text; and no way up
--- is longer than there are nodes, so none leads round
+-- the nodes make trees: the document is number 0, is the only one and has no parent; an input or a
+-- textarea keeps a value, and no other node; a node stands once among its parent's children, and
+-- among no other node's; every parent is there and is no text; and no way up is longer than there
+-- are nodes, so none leads round
 pub record Fits (nodes : List DomNode) : Type 0 where
   pub document : is_document_in (slice_get nodes 0) ≡ true
   pub alone : (x : ℕ) → is_document_in (slice_get nodes x) ≡ true → x ≡ 0
   pub values : (x : ℕ) → has_value_in (slice_get nodes x) ≡ keeps_value_in (slice_get nodes x)
   pub top : parent_of nodes 0 ≡ None
   pub children : (x c : ℕ) → times c (children_of nodes x) ≡ cond (is_child nodes x c) 1 0
-  pub parents : (x p : ℕ) → parent_of nodes x ≡ Some p → (p < length nodes) × (is_text nodes p ≡ false)
+  pub parents : (x p : ℕ) → parent_of nodes x ≡ Some p
+      → (p < length nodes) × (is_text nodes p ≡ false)
   pub ends : (x : ℕ) → Ends (parent_of nodes) (length nodes) (Some x)
 
 -- a node is the document or stands below it (4.4, "connected")

@@ -8,7 +8,8 @@ use Rattle.dom_tree.specs.Node.{DomNode}
 use Rattle.dom_tree.specs.declared.parts.Kind.{Kind}
 use Rattle.dom_tree.specs.declared.parts.Kind.TheVariants.{Document, Element, Text}
 
--- a node and all below it in tree order (DOM Standard, 1.1: each before its children), so many levels deep
+-- a node and all below it in tree order (DOM Standard, 1.1: each before its children), so many
+-- levels deep
 abbrev pub tree : List DomNode → ℕ → ℕ → List ℕ
 tree nodes zero x = []
 tree nodes (suc k) x = x ∷ flat_map (tree nodes k) (children_of nodes x)
@@ -34,7 +35,8 @@ is_element_kind (Text text) = false
 -- an element with this id (4.9, "unique identifier")
 abbrev pub has_id_in : List ℕ → Option DomNode → Bool
 has_id_in id None = false
-has_id_in id (Some node) = is_element_kind node.kind && is_value id (value_named (codes "id") node.attributes)
+has_id_in id (Some node) =
+    is_element_kind node.kind && is_value id (value_named (codes "id") node.attributes)
 
 abbrev pub has_id : List DomNode → List ℕ → ℕ → Bool
 has_id nodes id x = has_id_in id (slice_get nodes x)
@@ -84,12 +86,15 @@ abbrev pub or_else : Option ℕ → Option ℕ → Option ℕ
 or_else None other = other
 or_else (Some x) other = Some x
 
--- the next sibling of the nearest of these nodes, each the parent of the one before, that has one, none of them being the root
+-- the next sibling of the nearest of these nodes, each the parent of the one before, that has one,
+-- none of them being the root
 abbrev pub next_above : List DomNode → ℕ → List ℕ → Option ℕ
 next_above nodes root [] = None
-next_above nodes root (x ∷ above) = if x == root then None else or_else (next_sibling nodes x) (next_above nodes root above)
+next_above nodes root (x ∷ above) =
+    if x == root then None else or_else (next_sibling nodes x) (next_above nodes root above)
 
--- the node that follows in tree order within the tree below a root (DOM Standard, 1.1): the first child, or else what follows behind all
--- that is below the node
+-- the node that follows in tree order within the tree below a root (DOM Standard, 1.1): the first
+-- child, or else what follows behind all that is below the node
 abbrev pub next_within : List DomNode → ℕ → ℕ → Option ℕ
-next_within nodes root x = or_else (first_child nodes x) (next_above nodes root (x ∷ ancestors nodes x))
+next_within nodes root x =
+    or_else (first_child nodes x) (next_above nodes root (x ∷ ancestors nodes x))

@@ -25,7 +25,8 @@ attributes_of_content (words text) = []
 -- the numbers, counted from the first one given, of the nodes with this parent
 abbrev pub numbers_in : ℕ → ℕ → List DocNode → List ℕ
 numbers_in x k [] = []
-numbers_in x k (node ∷ more) = if is_one x node.parent then k ∷ numbers_in x (k + 1) more else numbers_in x (k + 1) more
+numbers_in x k (node ∷ more) =
+    if is_one x node.parent then k ∷ numbers_in x (k + 1) more else numbers_in x (k + 1) more
 
 -- the units, or none
 abbrev pub or_empty : Option (List ℕ) → List ℕ
@@ -42,18 +43,25 @@ abbrev pub text_in : ℕ → Option DocNode → List ℕ
 text_in x None = []
 text_in x (Some node) = if is_one x node.parent then text_of_content node.content else []
 
--- what an input holds at the start is its attribute `value`, and what a textarea holds is its text, which the page reader numbers next
--- (HTML Standard, 4.10.5.4 and 4.10.11)
+-- what an input holds at the start is its attribute `value`, and what a textarea holds is its text,
+-- which the page reader numbers next (HTML Standard, 4.10.5.4 and 4.10.11)
 abbrev pub value_of : List DocNode → ℕ → Content → Option (List ℕ)
 value_of nodes x page = None
 value_of nodes x (tag name attributes) =
     if bytes_eq name (codes "input") then Some (or_empty (value_named (codes "value") attributes))
-    else (if bytes_eq name (codes "textarea") then Some (text_in x (slice_get nodes (x + 1))) else None)
+    else (if bytes_eq name (codes "textarea") then Some (text_in x (slice_get nodes (x + 1)))
+    else None)
 value_of nodes x (words text) = None
 
 -- the node of this number as it is made, before it has a parent
 abbrev pub made_of : List DocNode → ℕ → DocNode → DomNode
-made_of nodes x node = record { kind = kind_of node.content; parent = None; children = []; attributes = attributes_of_content node.content; value = value_of nodes x node.content }
+made_of nodes x node = record {
+  kind = kind_of node.content;
+  parent = None;
+  children = [];
+  attributes = attributes_of_content node.content;
+  value = value_of nodes x node.content;
+}
 
 -- the node of this number, where these nodes are looked at for its children
 abbrev pub node_of : List DocNode → List DocNode → ℕ → DocNode → DomNode

@@ -28,7 +28,12 @@ impl Model for Attributes {
 
 // The place of the first attribute of this name.
 fn place_of(items: &[DocAttribute], name: &JText) -> Option<usize>
-    ensures { (value : List ℕ) → MatchOption result (with_value name.now value items.now ≡ items.now ++ record { name = name.now; value = value } ∷ []) (λ at. (at < length items.now) × (with_value name.now value items.now ≡ changed (λ a. record a { value = value }) at items.now)) }
+    ensures { (value : List ℕ) → MatchOption result
+        (with_value name.now value items.now
+        ≡ items.now ++ record { name = name.now; value = value } ∷ [])
+        (λ at. (at < length items.now)
+        × (with_value name.now value items.now
+        ≡ changed (λ a. record a { value = value }) at items.now)) }
 {
     for (index, attribute) in items.iter().enumerate() {
         if same_text(&attribute.name, name) {

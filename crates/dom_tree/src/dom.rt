@@ -22,14 +22,15 @@ use std::alloc::{AllocError, Global};
 use std::marker::Model;
 use thiserror::Error;
 
-/// The nodes of a document that is changed: at most so many, so that there are fewer than `INDEX_END`.
+/// The nodes of a document that is changed: at most so many, so that there are fewer than
+/// `INDEX_END`.
 pub const NODE_LIMIT: u32 = INDEX_END - 1;
 
 /// Why a document is not changed.
 #[derive(Clone, Copy, Debug, PartialEq, Eq, Error)]
 pub enum DomFault {
-    /// The node before which a child is to stand, or the child that is to be taken away, is no child of the parent
-    /// (DOM Standard, NotFoundError).
+    /// The node before which a child is to stand, or the child that is to be taken away, is no
+    /// child of the parent (DOM Standard, NotFoundError).
     #[error("not found")]
     NotFound,
     /// The child is the parent, an ancestor of it or the document, or the parent is a text
@@ -83,8 +84,8 @@ impl Model for Dom {
 }
 
 impl Dom {
-    /// The document that a page is: the same nodes, each with its number. An input's value is its attribute `value`, and a
-    /// textarea's its text.
+    /// The document that a page is: the same nodes, each with its number. An input's value is its
+    /// attribute `value`, and a textarea's its text.
     pub fn from_document(alloc: Global, doc: &Document) -> Result<Dom, NoMemory>
         ensures { IfOk result (λ dom. IsRead doc.now.nodes dom) }
     {
@@ -100,7 +101,8 @@ impl Dom {
         self.nodes.len() as u32
     }
 
-    /// What is kept of the node of this number. What stands around it is asked for by calls of their own.
+    /// What is kept of the node of this number. What stands around it is asked for by calls of
+    /// their own.
     pub fn node(&self, id: u32) -> &NodeData
         requires { id < length self.now }
         ensures { slice_get self.now id ≡ Some (node_with (children_of self.now id) result.now) }
@@ -110,9 +112,12 @@ impl Dom {
 
     /// Makes a node outside the document; a value that it keeps is empty.
     pub fn create(&mut self, kind: NewNode) -> Result<u32, DomFault>
-        ensures ok { IfOk result (λ id. (id ≡ length self.old) × (self.new ≡ self.old ++ fresh (kind_of_new kind) ∷ [])) }
+        ensures ok { IfOk result
+            (λ id. (id ≡ length self.old)
+            × (self.new ≡ self.old ++ fresh (kind_of_new kind) ∷ [])) }
         ensures full { (result ≡ Err DomFault.Full) ↔ (NODE_LIMIT ≤ length self.old) }
-        ensures others { IfErr result (λ fault. (fault ≡ DomFault.Full) ⊎ (fault ≡ DomFault.NoMemory)) }
+        ensures others { IfErr result
+            (λ fault. (fault ≡ DomFault.Full) ⊎ (fault ≡ DomFault.NoMemory)) }
         ensures err { OnErr result (self.new ≡ self.old) }
     {
         let id = self.nodes.len();
@@ -133,7 +138,8 @@ impl Dom {
         requires parent { parent < length self.old }
         requires child { child < length self.old }
         ensures ok { OnOk result (self.new ≡ appended parent child self.old) }
-        ensures cycle { (result ≡ Err DomFault.WouldCycle) ↔ (would_cycle self.old parent child ≡ true) }
+        ensures cycle { (result ≡ Err DomFault.WouldCycle)
+            ↔ (would_cycle self.old parent child ≡ true) }
         ensures others { IfErr result (λ fault. fault ≡ DomFault.WouldCycle) }
         ensures err { OnErr result (self.new ≡ self.old) }
     {
@@ -149,9 +155,13 @@ impl Dom {
         requires parent { parent < length self.old }
         requires child { child < length self.old }
         ensures ok { OnOk result (self.new ≡ inserted parent child before self.old) }
-        ensures cycle { (result ≡ Err DomFault.WouldCycle) ↔ (would_cycle self.old parent child ≡ true) }
-        ensures not_found { (result ≡ Err DomFault.NotFound) ↔ ((would_cycle self.old parent child ≡ false) × (is_child self.old parent before ≡ false)) }
-        ensures others { IfErr result (λ fault. (fault ≡ DomFault.WouldCycle) ⊎ (fault ≡ DomFault.NotFound)) }
+        ensures cycle { (result ≡ Err DomFault.WouldCycle)
+            ↔ (would_cycle self.old parent child ≡ true) }
+        ensures not_found { (result ≡ Err DomFault.NotFound)
+            ↔ ((would_cycle self.old parent child ≡ false)
+            × (is_child self.old parent before ≡ false)) }
+        ensures others { IfErr result
+            (λ fault. (fault ≡ DomFault.WouldCycle) ⊎ (fault ≡ DomFault.NotFound)) }
         ensures err { OnErr result (self.new ≡ self.old) }
     {
         let found = is_child(&self.nodes, parent, before);
@@ -171,7 +181,8 @@ impl Dom {
     /// Takes the child from the parent.
     pub fn remove(&mut self, parent: u32, child: u32) -> Result<(), DomFault>
         ensures ok { OnOk result (self.new ≡ removed child self.old) }
-        ensures not_found { (result ≡ Err DomFault.NotFound) ↔ (is_child self.old parent child ≡ false) }
+        ensures not_found { (result ≡ Err DomFault.NotFound)
+            ↔ (is_child self.old parent child ≡ false) }
         ensures others { IfErr result (λ fault. fault ≡ DomFault.NotFound) }
         ensures err { OnErr result (self.new ≡ self.old) }
     {
@@ -185,7 +196,8 @@ impl Dom {
     /// The value of the attribute of this name.
     pub fn attribute(&self, node: u32, name: &JText) -> Option<&JText>
         requires { node < length self.now }
-        ensures { option_map (λ value. value.now) result ≡ value_named name.now (attributes_of self.now node) }
+        ensures { option_map (λ value. value.now) result
+            ≡ value_named name.now (attributes_of self.now node) }
     {
         self.nodes[node as usize].attributes.value(name)
     }
@@ -193,7 +205,8 @@ impl Dom {
     /// Gives the attribute of this name a value.
     pub fn set_attribute(&mut self, node: u32, name: &JText, value: &JText) -> Result<(), NoMemory>
         requires { node < length self.old }
-        ensures ok { OnOk result (self.new ≡ changed (with_attributes (with_value name.now value.now)) node self.old) }
+        ensures ok { OnOk result
+            (self.new ≡ changed (with_attributes (with_value name.now value.now)) node self.old) }
         ensures err { OnErr result (self.new ≡ self.old) }
     {
         let name = name.copy()?;
@@ -283,8 +296,8 @@ impl Dom {
         previous_sibling(&self.nodes, node)
     }
 
-    /// The node that follows in tree order (DOM Standard, 1.1) within the tree below a root; asked for again and again from the root
-    /// on, it gives all that is below it.
+    /// The node that follows in tree order (DOM Standard, 1.1) within the tree below a root; asked
+    /// for again and again from the root on, it gives all that is below it.
     pub fn next_within(&self, root: u32, node: u32) -> Option<u32>
         requires { node < length self.now }
         ensures is { result ≡ next_within self.now root node }

@@ -29,7 +29,8 @@ pub(crate) fn next_sibling(nodes: &[NodeData], node: u32) -> Option<u32>
     requires node { node < length nodes.now }
     ensures is { result ≡ next_sibling (nodes_of nodes.now) node }
     ensures there { IfSome result (λ x. x < length nodes.now) }
-    ensures beside { IfSome result (λ x. parent_of (nodes_of nodes.now) x ≡ parent_of (nodes_of nodes.now) node) }
+    ensures beside { IfSome result
+        (λ x. parent_of (nodes_of nodes.now) x ≡ parent_of (nodes_of nodes.now) node) }
 {
     nodes[node as usize].links.next
 }
@@ -39,7 +40,8 @@ pub(crate) fn previous_sibling(nodes: &[NodeData], node: u32) -> Option<u32>
     requires node { node < length nodes.now }
     ensures is { result ≡ previous_sibling (nodes_of nodes.now) node }
     ensures there { IfSome result (λ x. x < length nodes.now) }
-    ensures beside { IfSome result (λ x. parent_of (nodes_of nodes.now) x ≡ parent_of (nodes_of nodes.now) node) }
+    ensures beside { IfSome result
+        (λ x. parent_of (nodes_of nodes.now) x ≡ parent_of (nodes_of nodes.now) node) }
 {
     nodes[node as usize].links.previous
 }

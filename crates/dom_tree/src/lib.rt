@@ -4,6 +4,7 @@
 mod attributes;
 mod dom;
 mod kin;
+mod laws;
 mod moves;
 mod order;
 mod parts;
@@ -13,4 +14,5 @@ mod writes;
 
 pub use attributes::Attributes;
 pub use dom::{Dom, DomFault, NODE_LIMIT};
+pub use laws::walk_is_in_tree_order;
 pub use parts::{Kind, NewNode, NodeData};

@@ -23,7 +23,8 @@ pub(crate) fn is_above(nodes: &[NodeData], wanted: u32, node: u32) -> bool
     false
 }
 
-// Whether a node that may have no children is an ancestor of another; the way up is walked only where it has some.
+// Whether a node that may have no children is an ancestor of another; the way up is walked only
+// where it has some.
 fn holds(nodes: &[NodeData], wanted: u32, node: u32) -> bool
     requires linked { IsLinked nodes.now }
     requires wanted { wanted < length nodes.now }
@@ -144,7 +145,8 @@ fn link_before(nodes: &mut [NodeData], parent: u32, child: u32, before: u32)
     requires free { parent_of (nodes_of nodes.old) child ≡ None }
     requires before { is_child (nodes_of nodes.old) parent before ≡ true }
     requires fits { Fits (placed (put_before before child) parent child (nodes_of nodes.old)) }
-    ensures is { nodes_of nodes.new ≡ placed (put_before before child) parent child (nodes_of nodes.old) }
+    ensures is { nodes_of nodes.new
+        ≡ placed (put_before before child) parent child (nodes_of nodes.old) }
     ensures linked { IsLinked nodes.new }
 {
     let previous = nodes[before as usize].links.previous;
@@ -174,7 +176,8 @@ pub(crate) fn insert_child(nodes: &mut [NodeData], parent: u32, child: u32, befo
     requires valid { would_cycle (nodes_of nodes.old) parent child ≡ false }
     requires before { is_child (nodes_of nodes.old) parent before ≡ true }
     requires apart { child ≢ before }
-    ensures is { nodes_of nodes.new ≡ placed (put_before before child) parent child (nodes_of nodes.old) }
+    ensures is { nodes_of nodes.new
+        ≡ placed (put_before before child) parent child (nodes_of nodes.old) }
     ensures linked { IsLinked nodes.new }
 {
     remove_child(nodes, child);

@@ -85,7 +85,8 @@ fn start_value(
 // The node of this number, before it has a parent.
 fn make_node(alloc: Global, doc: &Document, id: u32) -> Result<NodeData, NoMemory>
     requires { id < length doc.now.nodes }
-    ensures is { IfOk result (λ d. option_map (made_of doc.now.nodes id) (slice_get doc.now.nodes id) ≡ Some (bare d)) }
+    ensures is { IfOk result
+        (λ d. option_map (made_of doc.now.nodes id) (slice_get doc.now.nodes id) ≡ Some (bare d)) }
     ensures links { IfOk result (λ d. d.links ≡ no_links) }
 {
     let content = &doc.node(id).content;
@@ -111,7 +112,8 @@ fn add_node(
     requires linked { IsLinked nodes.old.items }
     requires front { IsFront doc.now.nodes (take id doc.now.nodes) (nodes_of nodes.old.items) }
     ensures linked { OnOk result (IsLinked nodes.new.items) }
-    ensures front { OnOk result (IsFront doc.now.nodes (take (id + 1) doc.now.nodes) (nodes_of nodes.new.items)) }
+    ensures front { OnOk result
+        (IsFront doc.now.nodes (take (id + 1) doc.now.nodes) (nodes_of nodes.new.items)) }
 {
     let node = make_node(alloc, doc, id)?;
     push_node(nodes, node)?;

@@ -16,7 +16,8 @@ pub(crate) fn push_node(nodes: &mut Vec<NodeData>, node: NodeData) -> Result<(),
     requires kind { is_document_kind node.kind ≡ false }
     requires value { is_some node.value ≡ keeps_value node.kind }
     requires linked { IsLinked nodes.old.items }
-    ensures ok { OnOk result (nodes_of nodes.new.items ≡ nodes_of nodes.old.items ++ bare node ∷ []) }
+    ensures ok { OnOk result
+        (nodes_of nodes.new.items ≡ nodes_of nodes.old.items ++ bare node ∷ []) }
     ensures err { OnErr result (nodes.new.items ≡ nodes.old.items) }
     ensures linked { IsLinked nodes.new.items }
 {
@@ -32,7 +33,9 @@ pub(crate) fn set_attribute(
 ) -> Result<(), AllocError>
     requires node { node < length nodes.old }
     requires linked { IsLinked nodes.old }
-    ensures ok { OnOk result (nodes_of nodes.new ≡ changed (with_attributes (with_value name value)) node (nodes_of nodes.old)) }
+    ensures ok { OnOk result
+        (nodes_of nodes.new
+        ≡ changed (with_attributes (with_value name value)) node (nodes_of nodes.old)) }
     ensures err { OnErr result (nodes.new ≡ nodes.old) }
     ensures linked { IsLinked nodes.new }
 {
@@ -43,7 +46,8 @@ pub(crate) fn set_attribute(
 pub(crate) fn remove_attribute(nodes: &mut [NodeData], node: u32, name: &JText)
     requires node { node < length nodes.old }
     requires linked { IsLinked nodes.old }
-    ensures is { nodes_of nodes.new ≡ changed (with_attributes (without_name name.now)) node (nodes_of nodes.old) }
+    ensures is { nodes_of nodes.new
+        ≡ changed (with_attributes (without_name name.now)) node (nodes_of nodes.old) }
     ensures linked { IsLinked nodes.new }
 {
     let node = &mut nodes[node as usize];

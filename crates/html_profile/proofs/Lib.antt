@@ -16,3 +16,4 @@ pub mod Utf8Page
 pub mod Inserted
 pub mod Shapes
 pub mod Spans
+pub mod Nesting

@@ -9,10 +9,14 @@ mark_len bytes = if opens bytes (0xEF ∷ 0xBB ∷ 0xBF ∷ []) then 3 else 0
 
 -- `<!doctype` in any case, and later a `>`
 abbrev pub opens_doctype : List ℕ → Bool
-opens_doctype text = opens_lowered text (codes "<!doctype") && nat_lt (place TagEnd text) (length text)
+opens_doctype text =
+    opens_lowered text (codes "<!doctype") && nat_lt (place TagEnd text) (length text)
 
--- after the byte order mark; or, where any white space and a doctype follow, after the doctype's `>`
+-- after the byte order mark; or, where any white space and a doctype follow, after the doctype's
+-- `>`
 abbrev pub first_place : List ℕ → ℕ
 first_place bytes =
     let text = drop (mark_len bytes) bytes in
-    if opens_doctype (from Ink text) then mark_len bytes + place Ink text + place TagEnd (from Ink text) + 1 else mark_len bytes
+    if opens_doctype (from Ink text)
+    then mark_len bytes + place Ink text + place TagEnd (from Ink text) + 1
+    else mark_len bytes

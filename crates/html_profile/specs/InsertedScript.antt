@@ -13,5 +13,6 @@ inserted_script =
     ++ line (codes "function $mug_timer(){$mug_wrapArg(0);var r=$mug_apply();return r;}")
     ++ line (codes "function $mug_listen(){$mug_wrapArg(1);var r=$mug_apply();return r;}")
     ++ line (codes "function $mug_put(){$mug_wrapArg(0);var r=$mug_apply();return r;}")
-    ++ line (codes "function $mug_call(){$mug_count(1);try{return $mug_apply();}finally{$mug_count(-1);}}")
+    ++ line
+    (codes "function $mug_call(){$mug_count(1);try{return $mug_apply();}finally{$mug_count(-1);}}")
     ++ line (codes "</script>")

@@ -16,3 +16,4 @@ pub mod Numbering
 pub mod Coherence
 pub mod Decoding
 pub mod Shape
+pub mod Nesting

@@ -1,7 +1,9 @@
 -- Marks: what ends a part of a page, and where it first stands.
--- Offsets and parts are those of bytes. Each mark but the two that end a run of white space begins with an ASCII byte,
--- and no byte of another character in UTF-8 is one, so a part of a text between marks is a text.
--- White space is that of the HTML Standard (Infra, "ASCII whitespace"): a carriage return reads as a line feed, so it is white space too.
+-- Offsets and parts are those of bytes. Each mark but the two that end a run of white space begins
+-- with an ASCII byte, and no byte of another character in UTF-8 is one, so a part of a text between
+-- marks is a text.
+-- White space is that of the HTML Standard (Infra, "ASCII whitespace"): a carriage return reads as
+-- a line feed, so it is white space too.
 use Rattle.std.specs.Prelude.{ℕ, ◌+◌, Bool, true, false, ◌&&◌, ◌||◌, not, List, [], ◌∷◌, length, take, drop, map, codes, ◌==◌, nat_eq, if◌then◌else◌}
 use Rattle.std.specs.Char.{to_ascii_lowercase, is_ascii_whitespace, is_ascii_alphabetic}
 use Rattle.std.specs.List.{starts_with}
@@ -42,11 +44,15 @@ name_of Textarea = codes "textarea"
 -- `<` and `!`, `?`, `/` or a letter (13.2.5.6, "Tag open state")
 abbrev pub opens_markup : List ℕ → Bool
 opens_markup [] = false
-opens_markup (c ∷ rest) = c == 60 && begins (λ d. is_ascii_alphabetic d || (d == 33 || (d == 47 || d == 63))) rest
+opens_markup (c ∷ rest) =
+    c == 60 && begins (λ d. is_ascii_alphabetic d || (d == 33 || (d == 47 || d == 63))) rest
 
 -- `</`, this name in any case, and white space, `/`, `>` or the end (13.2.5.11 to 13.2.5.17)
 abbrev pub closes_raw : List ℕ → List ℕ → Bool
-closes_raw name text = opens text (codes "</") && (opens_lowered (drop 2 text) name && not (begins (λ c. not (ends_name c)) (drop (2 + length name) text)))
+closes_raw name text =
+    opens text (codes "</")
+    && (opens_lowered (drop 2 text) name
+    && not (begins (λ c. not (ends_name c)) (drop (2 + length name) text)))
 
 -- this mark stands at the front of the text
 abbrev pub stands : Mark → List ℕ → Bool

@@ -5,7 +5,8 @@ use Rattle.std.specs.Str.{bytes_eq}
 use Rattle.html_profile.specs.Marks.{lower}
 use Rattle.html_profile.specs.declared.tag.Attribute.{Attribute}
 
--- the elements without an end tag (13.1.2, "Void elements", and `param`, which 13.2.6.4.7 closes at once too)
+-- the elements without an end tag (13.1.2, "Void elements", and `param`, which 13.2.6.4.7 closes at
+-- once too)
 abbrev pub void_names : List (List ℕ)
 void_names =
     codes "area" ∷ codes "base" ∷ codes "br" ∷ codes "col" ∷ codes "embed" ∷ codes "hr" ∷
@@ -24,7 +25,8 @@ handler_names =
     codes "onmousemove" ∷ codes "onmouseout" ∷ codes "onmouseover" ∷ codes "onmouseup" ∷
     codes "onreadystatechange" ∷ codes "onsubmit" ∷ []
 
--- an attribute whose value is a script; a name in ASCII has the same bytes and units, so this is said of either
+-- an attribute whose value is a script; a name in ASCII has the same bytes and units, so this is
+-- said of either
 abbrev pub is_handler : List ℕ → Bool
 is_handler name = list_any (λ handler. bytes_eq handler name) handler_names
 
@@ -36,13 +38,19 @@ value_named name (a ∷ more) = if bytes_eq a.name name then Some a.value else v
 -- a script of this type is run
 abbrev pub is_type_run : Option (List ℕ) → Bool
 is_type_run None = true
-is_type_run (Some value) = bytes_eq (lower value) [] || (bytes_eq (lower value) (codes "text/javascript") || bytes_eq (lower value) (codes "application/javascript"))
+is_type_run (Some value) =
+    bytes_eq (lower value) []
+    || (bytes_eq (lower value) (codes "text/javascript")
+    || bytes_eq (lower value) (codes "application/javascript"))
 
 -- an element with this name and these attributes is a script that is run
 abbrev pub is_run : List ℕ → List Attribute → Bool
-is_run name attributes = bytes_eq name (codes "script") && is_type_run (value_named (codes "type") attributes)
+is_run name attributes =
+    bytes_eq name (codes "script") && is_type_run (value_named (codes "type") attributes)
 
 -- the first attribute of each name, where these names stood before
 abbrev pub firsts : List (List ℕ) → List Attribute → List Attribute
 firsts names [] = []
-firsts names (a ∷ more) = if list_any (bytes_eq a.name) names then firsts (a.name ∷ names) more else a ∷ firsts (a.name ∷ names) more
+firsts names (a ∷ more) =
+    if list_any (bytes_eq a.name) names then firsts (a.name ∷ names) more
+    else a ∷ firsts (a.name ∷ names) more

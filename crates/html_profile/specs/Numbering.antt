@@ -38,10 +38,12 @@ is_element_in (Some node) = is_element_content node.content
 abbrev pub is_element : List DocNode → ℕ → Bool
 is_element nodes x = is_element_in (slice_get nodes x)
 
--- the nodes are numbered in the order in which they are opened: the document comes first, is the only one and has no parent, and
--- each other node has a parent before it, which is no text
+-- the nodes are numbered in the order in which they are opened: the document comes first, is the
+-- only one and has no parent, and each other node has a parent before it, which is no text
 pub record IsNumbered (nodes : List DocNode) : Type 0 where
   pub document : is_document_in (slice_get nodes 0) ≡ true
   pub alone : (x : ℕ) → is_document_in (slice_get nodes x) ≡ true → x ≡ 0
   pub top : parent_in (slice_get nodes 0) ≡ None
-  pub below : (x : ℕ) → 0 < x → x < length nodes → (p : ℕ) × (parent_in (slice_get nodes x) ≡ Some p) × (p < x) × (is_text_in (slice_get nodes p) ≡ false)
+  pub below : (x : ℕ) → 0 < x → x < length nodes
+      → (p : ℕ) × (parent_in (slice_get nodes x) ≡ Some p) × (p < x)
+      × (is_text_in (slice_get nodes p) ≡ false)

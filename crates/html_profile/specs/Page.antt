@@ -11,7 +11,8 @@ use Rattle.html_profile.specs.declared.document.ScriptAt.{ScriptAt}
 use Rattle.html_profile.specs.declared.document.HandlerAt.{HandlerAt}
 use Rattle.html_profile.specs.declared.document.NameAt.{NameAt}
 
--- the nodes by number, the scripts that are run, the handler attributes, and where the name of each attribute stands
+-- the nodes by number, the scripts that are run, the handler attributes, and where the name of each
+-- attribute stands
 pub record Page : Type 0 where
   pub nodes : List DocNode
   pub scripts : List ScriptAt
@@ -29,18 +30,23 @@ opens_prelude text = opens text inserted_script
 -- the bytes without the inserted script, which may stand at the first place alone
 abbrev pub without_prelude : List ℕ → List ℕ
 without_prelude bytes =
-    if opens_prelude (drop (first_place bytes) bytes) then take (first_place bytes) bytes ++ drop 450 (drop (first_place bytes) bytes) else bytes
+    if opens_prelude (drop (first_place bytes) bytes)
+    then take (first_place bytes) bytes ++ drop 450 (drop (first_place bytes) bytes)
+    else bytes
 
 -- the bytes with the inserted script at the first place
 abbrev pub with_inserted : List ℕ → List ℕ
-with_inserted bytes = take (first_place bytes) bytes ++ (inserted_script ++ drop (first_place bytes) bytes)
+with_inserted bytes =
+    take (first_place bytes) bytes ++ (inserted_script ++ drop (first_place bytes) bytes)
 
 abbrev pub page_of : State → Page
 page_of s = record { nodes = s.nodes; scripts = s.scripts; handlers = s.handlers; names = s.names }
 
--- the page that all these bytes are, but for a byte order mark of this length; places are those of the bytes
+-- the page that all these bytes are, but for a byte order mark of this length; places are those of
+-- the bytes
 abbrev pub IsPageBehind : ℕ → List ℕ → Page → Type 0
-IsPageBehind mark bytes page = (s : State) × IsTree (length bytes) (drop mark bytes) s × (page ≡ page_of s)
+IsPageBehind mark bytes page =
+    (s : State) × IsTree (length bytes) (drop mark bytes) s × (page ≡ page_of s)
 
 -- the page that the bytes are; places are those of the bytes without the inserted script
 abbrev pub IsPage : List ℕ → Page → Type 0
@@ -50,7 +56,8 @@ IsPage bytes page = IsPageBehind (mark_len bytes) (without_prelude bytes) page
 abbrev pub IsWholePage : List ℕ → Page → Type 0
 IsWholePage bytes page = IsPageBehind (mark_len bytes) bytes page
 
--- what the inserted script changes of these bytes, which have none at their first place: not where it stands, and not what is read
+-- what the inserted script changes of these bytes, which have none at their first place: not where
+-- it stands, and not what is read
 pub record IsPassedOver (bytes : List ℕ) : Type 0 where
   pub place : first_place (with_inserted bytes) ≡ first_place bytes
   pub page : (page : Page) → IsPage (with_inserted bytes) page ↔ IsPage bytes page

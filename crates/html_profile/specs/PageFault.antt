@@ -9,8 +9,8 @@ use Rattle.html_profile.specs.declared.page.HtmlFault.TheVariants.{TooLarge, Not
 abbrev pub longest_page : ℕ
 longest_page = PAGE_LIMIT + 450
 
--- bytes above 4 MiB and the inserted script are too large, and no others; of the others the place is the first at which no sequence
--- of UTF-8 begins; nothing is said of when memory is out
+-- bytes above 4 MiB and the inserted script are too large, and no others; of the others the place
+-- is the first at which no sequence of UTF-8 begins; nothing is said of when memory is out
 abbrev pub Refuses : HtmlFault → List ℕ → Type 0
 Refuses TooLarge bytes = longest_page < length bytes
 Refuses (NotUtf8 place) bytes = (length bytes ≤ longest_page) × StopsAt bytes place

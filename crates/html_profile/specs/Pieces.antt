@@ -1,6 +1,8 @@
--- The pieces that make up a page (HTML Standard, 13.2.5 "Tokenization", in a profile: no CDATA; a comment ends at `-->` alone,
--- so `<!-->` opens one; an element with raw text and its text are one piece).
--- Each piece is of the kind that its first bytes have, and as long as the rule of its kind lets it be.
+-- The pieces that make up a page (HTML Standard, 13.2.5 "Tokenization", in a profile: no CDATA; a
+-- comment ends at `-->` alone, so `<!-->` opens one; an element with raw text and its text are one
+-- piece).
+-- Each piece is of the kind that its first bytes have, and as long as the rule of its kind lets it
+-- be.
 use Rattle.std.specs.Prelude.{◌≡◌, ◌≢◌, ℕ, ◌&&◌, List, [], ◌∷◌, length, drop, codes, nat_lt, Option, Some, None, if◌then◌else◌}
 use Rattle.std.specs.Char.{is_ascii_alphabetic}
 use Rattle.std.specs.Str.{bytes_eq}
@@ -44,8 +46,8 @@ raw_text Style bytes = lines bytes
 raw_text Title bytes = plain bytes
 raw_text Textarea bytes = plain bytes
 
--- the raw text behind a start tag, up to the element's end tag, as it stands there and as it reads, and what stands behind it;
--- nothing for other elements
+-- the raw text behind a start tag, up to the element's end tag, as it stands there and as it reads,
+-- and what stands behind it; nothing for other elements
 abbrev pub source : Option Raw → List ℕ → List ℕ
 source None rest = []
 source (Some raw) rest = before (RawEnd raw) rest
@@ -67,7 +69,8 @@ tag_of name attributes rest = record {
   left = length rest;
 }
 
--- the start tag with this name and these attributes, behind which this stands: an element, or nothing where the end cuts the tag off
+-- the start tag with this name and these attributes, behind which this stands: an element, or
+-- nothing where the end cuts the tag off
 abbrev pub IsTag : List ℕ → List Attribute → Option (List ℕ) → Piece → List ℕ → Type 0
 IsTag name attributes None piece behind = (piece ≡ Dropped) × (behind ≡ [])
 IsTag name attributes (Some rest) piece behind =
@@ -94,11 +97,13 @@ end_tag text = if nat_lt (place TagEnd text) (length text) then EndTag (end_name
 
 -- the piece of this kind at the front of the text, and what stands behind it
 abbrev pub IsPieceOf : Kind → List ℕ → Piece → List ℕ → Type 0
-IsPieceOf Comment text piece behind = (piece ≡ Dropped) × (behind ≡ drop 3 (from CommentEnd (drop 4 text)))
+IsPieceOf Comment text piece behind =
+    (piece ≡ Dropped) × (behind ≡ drop 3 (from CommentEnd (drop 4 text)))
 IsPieceOf Other text piece behind = (piece ≡ Dropped) × (behind ≡ drop 1 (from TagEnd text))
 IsPieceOf Ending text piece behind = (piece ≡ end_tag text) × (behind ≡ drop 1 (from TagEnd text))
 IsPieceOf Starting text piece behind = IsStartTag text piece behind
-IsPieceOf Words text piece behind = (piece ≡ Text (plain (before Markup text))) × (behind ≡ from Markup text)
+IsPieceOf Words text piece behind =
+    (piece ≡ Text (plain (before Markup text))) × (behind ≡ from Markup text)
 
 -- the piece at the front of a text that is not empty
 abbrev pub IsPiece : List ℕ → Piece → List ℕ → Type 0
@@ -107,7 +112,8 @@ IsPiece text piece behind = IsPieceOf (kind_of text) text piece behind
 -- these pieces stand one behind the other, and this behind them
 abbrev pub Reads : List ℕ → List Piece → List ℕ → Type 0
 Reads text [] rest = text ≡ rest
-Reads text (piece ∷ pieces) rest = (behind : List ℕ) × (text ≢ []) × IsPiece text piece behind × Reads behind pieces rest
+Reads text (piece ∷ pieces) rest =
+    (behind : List ℕ) × (text ≢ []) × IsPiece text piece behind × Reads behind pieces rest
 
 -- these are the pieces that make up the text
 abbrev pub ArePieces : List ℕ → List Piece → Type 0

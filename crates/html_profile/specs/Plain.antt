@@ -5,10 +5,11 @@ use Rattle.std.specs.Char.{encode_utf8, digit_value}
 use lib.Utf8.{scalar}
 use Rattle.html_profile.specs.Marks.{opens, begins}
 
--- what stands for a byte that these follow: carriage return and line feed, and carriage return alone, read as line feed
--- (Infra, "normalize newlines")
+-- what stands for a byte that these follow: carriage return and line feed, and carriage return
+-- alone, read as line feed (Infra, "normalize newlines")
 abbrev pub line_byte : ℕ → List ℕ → Option ℕ
-line_byte c rest = if c == 13 then (if begins (λ d. d == 10) rest then None else Some 10) else Some c
+line_byte c rest =
+    if c == 13 then (if begins (λ d. d == 10) rest then None else Some 10) else Some c
 
 abbrev pub lines : List ℕ → List ℕ
 lines [] = []
@@ -26,12 +27,15 @@ value_of base digits = fold (λ n c. n * base + digit_value c) 0 digits
 abbrev pub is_character : ℕ → Bool
 is_character c = nat_lt 0 c && scalar c
 
--- the character and the length of a reference by number: behind this many bytes the digits of this base, and `;`
+-- the character and the length of a reference by number: behind this many bytes the digits of this
+-- base, and `;`
 abbrev pub numeric : ℕ → ℕ → List ℕ → Option (ℕ × ℕ)
 numeric base start text =
     let digits = digits_of base (drop start text) in
     let c = value_of base digits in
-    if is_character c && begins (λ d. d == 59) (drop (start + length digits) text) then Some (c, start + length digits + 1) else None
+    if is_character c && begins (λ d. d == 59) (drop (start + length digits) text)
+    then Some (c, start + length digits + 1)
+    else None
 
 -- the character that a reference at the front of the text stands for, and the reference's length
 -- (HTML Standard, 13.1.4, in a profile: five names, all with `;`, and scalar values other than 0)
@@ -56,10 +60,12 @@ abbrev pub taken : Option (ℕ × ℕ) → ℕ
 taken None = 0
 taken (Some found) = found.1 - 1
 
--- the text behind so many bytes, which belong to a reference, with the character in place of each reference
+-- the text behind so many bytes, which belong to a reference, with the character in place of each
+-- reference
 abbrev pub resolved : ℕ → List ℕ → List ℕ
 resolved n [] = []
-resolved zero (c ∷ rest) = written c (reference (c ∷ rest)) ++ resolved (taken (reference (c ∷ rest))) rest
+resolved zero (c ∷ rest) =
+    written c (reference (c ∷ rest)) ++ resolved (taken (reference (c ∷ rest))) rest
 resolved (suc n) (c ∷ rest) = resolved n rest
 
 -- text with references; a carriage return that a reference stands for stays

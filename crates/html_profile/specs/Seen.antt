@@ -9,4 +9,5 @@ use Rattle.html_profile.specs.declared.seen.Seen.{Seen}
 
 -- the set has these names and no others
 abbrev pub HasNames : Seen → List (List ℕ) → Type 0
-HasNames seen names = (q : List ℕ) → contains_by (λ k. slice_cmp nat_cmp q k.items) seen.names ≡ list_any (bytes_eq q) names
+HasNames seen names = (q : List ℕ) →
+    contains_by (λ k. slice_cmp nat_cmp q k.items) seen.names ≡ list_any (bytes_eq q) names

@@ -29,7 +29,8 @@ is_one x (Some y) = y == x
 -- what the children of this parent are, in their order
 abbrev pub contents_in : ℕ → List DocNode → List Content
 contents_in p [] = []
-contents_in p (node ∷ more) = if is_one p node.parent then node.content ∷ contents_in p more else contents_in p more
+contents_in p (node ∷ more) =
+    if is_one p node.parent then node.content ∷ contents_in p more else contents_in p more
 
 abbrev pub begins_in_text : List Content → Bool
 begins_in_text [] = false
@@ -50,11 +51,14 @@ steps_up nodes (suc k) (Some x) = steps_up nodes k (parent_in (slice_get nodes x
 abbrev pub StandsIn : List DocNode → ℕ → ℕ → Type 0
 StandsIn nodes p x = (k : ℕ) × (steps_up nodes k (Some x) ≡ Some p)
 
--- no text is empty, and no two stand side by side; what has a child is neither a text nor a void element; and the numbers are in the order
--- in which nodes are opened (DOM Standard, 1.1, "tree order"): a node's parent is the node of the number before, or one that it stands in
+-- no text is empty, and no two stand side by side; what has a child is neither a text nor a void
+-- element; and the numbers are in the order in which nodes are opened (DOM Standard, 1.1, "tree
+-- order"): a node's parent is the node of the number before, or one that it stands in
 pub record HasShape (nodes : List DocNode) : Type 0 where
   pub texts : All (λ node. is_empty_text node.content ≡ false) nodes
   pub apart : (p : ℕ) → TextsApart (contents_in p nodes)
-  pub texts_childless : (x p : ℕ) → parent_in (slice_get nodes x) ≡ Some p → is_text_in (slice_get nodes p) ≡ false
-  pub voids_childless : (x p : ℕ) → parent_in (slice_get nodes x) ≡ Some p → is_void_in (slice_get nodes p) ≡ false
+  pub texts_childless : (x p : ℕ) → parent_in (slice_get nodes x) ≡ Some p
+      → is_text_in (slice_get nodes p) ≡ false
+  pub voids_childless : (x p : ℕ) → parent_in (slice_get nodes x) ≡ Some p
+      → is_void_in (slice_get nodes p) ≡ false
   pub order : (x p : ℕ) → parent_in (slice_get nodes (suc x)) ≡ Some p → StandsIn nodes p x

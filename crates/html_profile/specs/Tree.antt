@@ -1,5 +1,6 @@
--- The tree that a page's pieces make (HTML Standard, 13.2.6, in a profile: no implied tags, so a start tag always opens a child of
--- the innermost open element, and an end tag closes all up to the nearest open element of its name, or is ignored).
+-- The tree that a page's pieces make (HTML Standard, 13.2.6, in a profile: no implied tags, so a
+-- start tag always opens a child of the innermost open element, and an end tag closes all up to the
+-- nearest open element of its name, or is ignored).
 use Rattle.std.specs.Prelude.{ℕ, ◌-◌, List, [], ◌∷◌, ◌++◌, length, map, codes, fold, Option, Some, None, if◌then◌else◌}
 use Rattle.std.specs.List.{flat_map}
 use Rattle.std.specs.Option.{option_map}
@@ -22,7 +23,8 @@ use Rattle.html_profile.specs.declared.tree.Open.{Open}
 abbrev pub units : List ℕ → List ℕ
 units bytes = flat_map encode_utf16 (chars bytes)
 
--- what has been read of a page: its nodes by number, the open elements, innermost first, and the text behind the last tag
+-- what has been read of a page: its nodes by number, the open elements, innermost first, and the
+-- text behind the last tag
 pub record State : Type 0 where
   pub nodes : List DocNode
   pub open_elements : List Open
@@ -39,7 +41,8 @@ innermost (o ∷ _) = o.node
 -- the nodes, and behind them a text in this parent, unless it is empty
 abbrev pub with_text : List DocNode → ℕ → List ℕ → List DocNode
 with_text nodes parent [] = nodes
-with_text nodes parent (c ∷ words) = nodes ++ record { parent = Some parent; content = text_node (units (c ∷ words)) } ∷ []
+with_text nodes parent (c ∷ words) =
+    nodes ++ record { parent = Some parent; content = text_node (units (c ∷ words)) } ∷ []
 
 -- the text behind the last tag becomes a node
 abbrev pub settled : State → State
@@ -59,7 +62,8 @@ shown_attribute a = record { name = units a.name; value = units a.value }
 
 -- the elements that are open behind a start tag
 abbrev pub opened : ℕ → List ℕ → List Open → List Open
-opened node name open_ones = if is_void name then open_ones else record { node = node; name = name } ∷ open_ones
+opened node name open_ones =
+    if is_void name then open_ones else record { node = node; name = name } ∷ open_ones
 
 -- the script that an element is, if it is one that is run; total is the page's length
 abbrev pub script_of : ℕ → ℕ → Tag → List ScriptAt
@@ -75,7 +79,8 @@ script_of total node tag =
     else []
 
 abbrev pub handler_at : ℕ → ℕ → Attribute → HandlerAt
-handler_at total node a = record { node = node; name = units a.name; text = units a.value; at = total - a.left }
+handler_at total node a =
+    record { node = node; name = units a.name; text = units a.value; at = total - a.left }
 
 -- the handler that an attribute is, if it is one
 abbrev pub handler_of : ℕ → ℕ → Attribute → List HandlerAt
@@ -91,7 +96,10 @@ name_at total node a = record { node = node; name = units a.name; at = total - a
 
 -- the element of a start tag
 abbrev pub element_of : ℕ → Tag → DocNode
-element_of parent tag = record { parent = Some parent; content = element (units tag.name) (map shown_attribute (firsts [] tag.attributes)) }
+element_of parent tag = record {
+  parent = Some parent;
+  content = element (units tag.name) (map shown_attribute (firsts [] tag.attributes));
+}
 
 -- an element behind the nodes, and its text, if it has raw text, behind its tag
 abbrev pub with_element : ℕ → State → Tag → State
@@ -113,7 +121,14 @@ step total s (StartTag tag) = with_element total (settled s) tag
 
 -- the document alone
 abbrev pub beginning : State
-beginning = record { nodes = record { parent = None; content = document } ∷ []; open_elements = []; words = []; scripts = []; handlers = []; names = [] }
+beginning = record {
+  nodes = record { parent = None; content = document } ∷ [];
+  open_elements = [];
+  words = [];
+  scripts = [];
+  handlers = [];
+  names = [];
+}
 
 -- what the pieces make
 abbrev pub made : ℕ → List Piece → State

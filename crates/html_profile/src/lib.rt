@@ -19,7 +19,8 @@ mod unit_places;
 pub use document::{Content, DocAttribute, DocNode, HandlerAt, NameAt, ScriptAt};
 pub use front::first_place;
 pub use laws::{
-    inserted_script_is_passed_over, pages_have_shape, scripts_lie_within, tables_are_spelled,
+    inserted_script_is_passed_over, pages_are_nested, pages_have_shape, scripts_lie_within,
+    tables_are_spelled,
 };
 pub use names::{HANDLERS, is_handler_name};
 pub use page::{Document, HtmlFault, read_html, read_whole};

@@ -68,10 +68,20 @@ impl Model for Document {
     ghost use Rattle.html_profile.specs.Coherence.{IsCoherent};
     ghost use Rattle.html_profile.specs.PageFault.{longest_page};
 
-    ghost view = { λ d. record { nodes = d.nodes.items; scripts = d.scripts.items; handlers = d.handlers.items; names = d.names.items } };
+    ghost view = { λ d. record {
+      nodes = d.nodes.items;
+      scripts = d.scripts.items;
+      handlers = d.handlers.items;
+      names = d.names.items;
+    } };
 
     ghost invariant = { λ d. (length d.nodes.items < 2 ^ 32)
-        × IsCoherent longest_page (record { nodes = d.nodes.items; scripts = d.scripts.items; handlers = d.handlers.items; names = d.names.items }) };
+        × IsCoherent longest_page (record {
+          nodes = d.nodes.items;
+          scripts = d.scripts.items;
+          handlers = d.handlers.items;
+          names = d.names.items;
+        }) };
 }
 
 impl Document {
@@ -115,11 +125,14 @@ impl Document {
         &self.names
     }
 
-    /// The offset of the byte at which a unit of a script's text begins, counted as the script's place is.
+    /// The offset of the byte at which a unit of a script's text begins, counted as the script's
+    /// place is.
     pub fn script_byte(&self, script: usize, unit: usize) -> usize
         requires { script < length self.now.scripts }
-        ensures is { IfSome (slice_get self.now.scripts script) (λ s. result ≡ s.at + unit_place unit s.source) }
-        ensures within { IfSome (slice_get self.now.scripts script) (λ s. result ≤ s.at + length s.source) }
+        ensures is { IfSome (slice_get self.now.scripts script)
+            (λ s. result ≡ s.at + unit_place unit s.source) }
+        ensures within { IfSome (slice_get self.now.scripts script)
+            (λ s. result ≤ s.at + length s.source) }
     {
         let found = &self.scripts[script];
         found.at + unit_place(found.source.as_slice(), unit)
@@ -154,9 +167,12 @@ fn build(alloc: Global, total: usize, text: &[u8]) -> Result<Builder, AllocError
 
 // The page without the inserted script, if that stands at the first place.
 fn without_prelude(alloc: Global, bytes: &[u8]) -> Result<Option<Vec<u8>>, AllocError>
-    ensures is { IfOk result (λ found. MatchOption found (without_prelude bytes.now ≡ bytes.now) (λ page. page.items ≡ without_prelude bytes.now)) }
-    ensures behind_mark { IfOk result (λ found. IfSome found (λ page. mark_len bytes.now ≤ vec_len page)) }
-    ensures shorter { IfOk result (λ found. IfSome found (λ page. vec_len page ≤ length bytes.now)) }
+    ensures is { IfOk result (λ found. MatchOption found (without_prelude bytes.now ≡ bytes.now)
+        (λ page. page.items ≡ without_prelude bytes.now)) }
+    ensures behind_mark { IfOk result
+        (λ found. IfSome found (λ page. mark_len bytes.now ≤ vec_len page)) }
+    ensures shorter { IfOk result
+        (λ found. IfSome found (λ page. vec_len page ≤ length bytes.now)) }
 {
     let (before, rest) = bytes.split_at(first_place(bytes));
     if !opens_prelude(rest) {
@@ -168,7 +184,8 @@ fn without_prelude(alloc: Global, bytes: &[u8]) -> Result<Option<Vec<u8>>, Alloc
     Ok(Some(page))
 }
 
-// Refuses what is too long, and bytes that are no UTF-8. The whole page is read as one text, so that the first fault counts.
+// Refuses what is too long, and bytes that are no UTF-8. The whole page is read as one text, so
+// that the first fault counts.
 fn check_page(alloc: Global, bytes: &[u8]) -> Result<(), HtmlFault>
     ensures size { OnOk result (length bytes.now ≤ longest_page) }
     ensures text { OnOk result ((text : List ℕ) × IsText bytes.now text) }
@@ -188,7 +205,8 @@ fn check_page(alloc: Global, bytes: &[u8]) -> Result<(), HtmlFault>
 fn built(alloc: Global, bytes: &[u8]) -> Result<Builder, AllocError>
     requires short { length bytes.now ≤ LIMIT }
     requires decodes { IsUtf8 bytes.now }
-    ensures tree { IfOk result (λ builder. IsTree (length (without_prelude bytes.now)) (drop (mark_len bytes.now) (without_prelude bytes.now)) (state_of builder)) }
+    ensures tree { IfOk result (λ builder. IsTree (length (without_prelude bytes.now))
+        (drop (mark_len bytes.now) (without_prelude bytes.now)) (state_of builder)) }
     ensures room { IfOk result (λ builder. vec_len builder.nodes < 2 ^ 32) }
     ensures short { OnOk result (length (without_prelude bytes.now) ≤ LIMIT) }
 {
@@ -201,7 +219,8 @@ fn built(alloc: Global, bytes: &[u8]) -> Result<Builder, AllocError>
 
 // The page that was built.
 fn page_of(builder: Builder) -> Document
-    requires made { (total : ℕ) × (text : List ℕ) × (total ≤ LIMIT) × IsTree total text (state_of builder) }
+    requires made { (total : ℕ) × (text : List ℕ) × (total ≤ LIMIT)
+        × IsTree total text (state_of builder) }
     requires room { vec_len builder.nodes < 2 ^ 32 }
     ensures { result ≡ page_of (state_of builder) }
 {
@@ -232,10 +251,12 @@ pub fn read_html(alloc: Global, bytes: &[u8]) -> Result<Document, HtmlFault>
     Ok(page_of(built(alloc, bytes)?))
 }
 
-/// The page that these bytes are with nothing taken out: the inserted script is a script like others, and places count every byte.
+/// The page that these bytes are with nothing taken out: the inserted script is a script like
+/// others, and places count every byte.
 pub fn read_whole(alloc: Global, bytes: &[u8]) -> Result<Document, HtmlFault>
     ensures page { IfOk result (λ page. IsWholePage bytes.now page) }
-    ensures only { IfOk result (λ page. (other : Page) → IsWholePage bytes.now other → other ≡ page) }
+    ensures only { IfOk result
+        (λ page. (other : Page) → IsWholePage bytes.now other → other ≡ page) }
     ensures size { OnOk result (length bytes.now ≤ longest_page) }
     ensures text { OnOk result ((text : List ℕ) × IsText bytes.now text) }
     ensures refused { IfErr result (λ fault. Refuses fault bytes.now) }

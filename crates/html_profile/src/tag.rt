@@ -67,7 +67,8 @@ fn value_at(text: &[u8]) -> Option<(&[u8], &[u8])>
 // The attribute at the front of the text, and what stands behind it.
 fn attribute_at(alloc: Global, text: &[u8]) -> Result<Option<(Attribute, &[u8])>, AllocError>
     ensures is { IfOk result (λ found. seen_attribute found ≡ attribute_at text.now) }
-    ensures shorter { IfOk result (λ found. IfSome found (λ pair. length pair.1.now < length text.now)) }
+    ensures shorter { IfOk result
+        (λ found. IfSome found (λ pair. length pair.1.now < length text.now)) }
 {
     let Some((first, rest)) = text.split_first() else {
         return Ok(None);
@@ -87,13 +88,15 @@ fn attribute_at(alloc: Global, text: &[u8]) -> Result<Option<(Attribute, &[u8])>
     Ok(Some((attribute, behind)))
 }
 
-/// The attributes behind a tag's name, and what stands behind the tag; `None` where the end cuts the tag off.
+/// The attributes behind a tag's name, and what stands behind the tag; `None` where the end cuts
+/// the tag off.
 pub(crate) fn attributes(
     alloc: Global,
     text: &[u8],
 ) -> Result<(Listed<Attribute>, Option<&[u8]>), AllocError>
     ensures is { IfOk result (λ found. IsAttributes text.now found.0 (seen_rest found.1)) }
-    ensures shorter { IfOk result (λ found. IfSome found.1 (λ rest. length rest.now < length text.now)) }
+    ensures shorter { IfOk result
+        (λ found. IfSome found.1 (λ rest. length rest.now < length text.now)) }
 {
     let mut attributes = Vec::new(alloc);
     let mut rest = text;

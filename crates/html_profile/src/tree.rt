@@ -78,7 +78,8 @@ fn shown_attribute(alloc: Global, attribute: &Attribute) -> Result<DocAttribute,
 
 fn shown(alloc: Global, attributes: &[&Attribute]) -> Result<Vec<DocAttribute>, AllocError>
     requires { All DecodingAttribute (map (λ a. a.now) attributes.now) }
-    ensures { IfOk result (λ shown. shown.items ≡ map shown_attribute (map (λ a. a.now) attributes.now)) }
+    ensures { IfOk result
+        (λ shown. shown.items ≡ map shown_attribute (map (λ a. a.now) attributes.now)) }
 {
     let mut shown = Vec::new(alloc);
     for attribute in attributes {
@@ -89,7 +90,8 @@ fn shown(alloc: Global, attributes: &[&Attribute]) -> Result<Vec<DocAttribute>, 
 
 // The place of the nearest open element of this name.
 fn nearest(elements: &[Open], name: &[u8]) -> Option<usize>
-    ensures is { MatchOption result (closed name.now (reverse elements.now) ≡ None) (λ at. closed name.now (reverse elements.now) ≡ Some (reverse (take at elements.now))) }
+    ensures is { MatchOption result (closed name.now (reverse elements.now) ≡ None)
+        (λ at. closed name.now (reverse elements.now) ≡ Some (reverse (take at elements.now))) }
     ensures within { MatchOption result Unit (λ at. at < length elements.now) }
 {
     let mut at = elements.len();
@@ -123,7 +125,8 @@ fn push_handler(
     handlers: &mut Vec<HandlerAt>,
 ) -> Result<(), AllocError>
     requires { DecodingAttribute attribute.now }
-    ensures { OnOk result (handlers.new.items ≡ handlers.old.items ++ handler_of total node attribute.now) }
+    ensures { OnOk result
+        (handlers.new.items ≡ handlers.old.items ++ handler_of total node attribute.now) }
 {
     if !is_handler(attribute.name.as_slice()) {
         return Ok(());
@@ -145,7 +148,9 @@ fn push_handlers(
     handlers: &mut Vec<HandlerAt>,
 ) -> Result<(), AllocError>
     requires { All DecodingAttribute (map (λ a. a.now) attributes.now) }
-    ensures { OnOk result (handlers.new.items ≡ handlers.old.items ++ handlers_of total node (map (λ a. a.now) attributes.now)) }
+    ensures { OnOk result
+        (handlers.new.items
+        ≡ handlers.old.items ++ handlers_of total node (map (λ a. a.now) attributes.now)) }
 {
     for attribute in attributes {
         push_handler(alloc, total, node, attribute, handlers)?;
@@ -161,7 +166,9 @@ fn push_names(
     names: &mut Vec<NameAt>,
 ) -> Result<(), AllocError>
     requires { All DecodingAttribute (map (λ a. a.now) attributes.now) }
-    ensures { OnOk result (names.new.items ≡ names.old.items ++ map (name_at total node) (map (λ a. a.now) attributes.now)) }
+    ensures { OnOk result
+        (names.new.items
+        ≡ names.old.items ++ map (name_at total node) (map (λ a. a.now) attributes.now)) }
 {
     for attribute in attributes {
         names.push(NameAt {
@@ -287,7 +294,9 @@ impl Builder {
     fn close(&mut self, name: &[u8]) -> Result<(), AllocError>
         requires known { IsKnown self.old }
         requires decodes { IsUtf8 self.old.words.items }
-        ensures is { OnOk result (state_of self.new ≡ with_closed (state_of self.old) (closed name.now (state_of self.old).open_elements)) }
+        ensures is { OnOk result
+            (state_of self.new
+            ≡ with_closed (state_of self.old) (closed name.now (state_of self.old).open_elements)) }
         ensures total { self.new.total ≡ self.old.total }
         ensures nodes { vec_len self.new.nodes ≤ vec_len self.old.nodes + 1 }
         ensures known { OnOk result (IsKnown self.new) }
@@ -308,10 +317,19 @@ impl Builder {
     // Adds all of a start tag but its element, which it hands out.
     fn describe(&mut self, node: u32, tag: &Tag) -> Result<DocNode, AllocError>
         requires { DecodingTag tag.now }
-        ensures element { IfOk result (λ made. made ≡ element_of (innermost (state_of self.old).open_elements) tag.now) }
-        ensures scripts { OnOk result (self.new.scripts.items ≡ self.old.scripts.items ++ script_of self.old.total node tag.now) }
-        ensures handlers { OnOk result (self.new.handlers.items ≡ self.old.handlers.items ++ handlers_of self.old.total node (firsts [] tag.now.attributes)) }
-        ensures names { OnOk result (self.new.names.items ≡ self.old.names.items ++ map (name_at self.old.total node) (firsts [] tag.now.attributes)) }
+        ensures element { IfOk result
+            (λ made. made ≡ element_of (innermost (state_of self.old).open_elements) tag.now) }
+        ensures scripts { OnOk result
+            (self.new.scripts.items
+            ≡ self.old.scripts.items ++ script_of self.old.total node tag.now) }
+        ensures handlers { OnOk result
+            (self.new.handlers.items
+            ≡ self.old.handlers.items
+            ++ handlers_of self.old.total node (firsts [] tag.now.attributes)) }
+        ensures names { OnOk result
+            (self.new.names.items
+            ≡ self.old.names.items
+            ++ map (name_at self.old.total node) (firsts [] tag.now.attributes)) }
         ensures words { OnOk result (self.new.words.items ≡ self.old.words.items ++ tag.now.text) }
         ensures nodes { self.new.nodes ≡ self.old.nodes }
         ensures elements { self.new.elements ≡ self.old.elements }
@@ -333,7 +351,8 @@ impl Builder {
         requires words { self.old.words.items ≡ [] }
         requires known { IsKnown self.old }
         requires room { vec_len self.old.nodes < 2 ^ 32 }
-        ensures is { OnOk result (state_of self.new ≡ with_element self.old.total (state_of self.old) tag) }
+        ensures is { OnOk result
+            (state_of self.new ≡ with_element self.old.total (state_of self.old) tag) }
         ensures total { self.new.total ≡ self.old.total }
         ensures nodes { vec_len self.new.nodes ≤ vec_len self.old.nodes + 1 }
         ensures known { OnOk result (IsKnown self.new) }
@@ -356,7 +375,8 @@ impl Builder {
         requires known { IsKnown self.old }
         requires decodes { IsUtf8 self.old.words.items }
         requires room { vec_len self.old.nodes + 1 < 2 ^ 32 }
-        ensures is { OnOk result (state_of self.new ≡ step self.old.total (state_of self.old) piece) }
+        ensures is { OnOk result
+            (state_of self.new ≡ step self.old.total (state_of self.old) piece) }
         ensures total { self.new.total ≡ self.old.total }
         ensures nodes { vec_len self.new.nodes ≤ vec_len self.old.nodes + 2 }
         ensures known { OnOk result (IsKnown self.new) }

@@ -14,7 +14,8 @@ fn units_at(before: u8, byte: u8) -> usize
     }
 }
 
-/// The place of the byte at which the unit of this number begins; where there are no more units, the end.
+/// The place of the byte at which the unit of this number begins; where there are no more units,
+/// the end.
 pub(crate) fn unit_place(bytes: &[u8], unit: usize) -> usize
     ensures is { result ≡ unit_place unit bytes.now }
     ensures within { result ≤ length bytes.now }

@@ -1,5 +1,5 @@
--- What the code keeps of a document: in place of the list of a node's children, links to the first and the last one, and from each child
--- to those beside it.
+-- What the code keeps of a document: in place of the list of a node's children, links to the first
+-- and the last one, and from each child to those beside it.
 use Rattle.std.specs.Prelude.{◌≡◌, ℕ, List, [], length, map, slice_get, Option, Some, None}
 use Rattle.dom_tree.specs.Node.{DomNode, node_with}
 use Rattle.dom_tree.specs.Nodes.{way_up, Fits}
@@ -25,7 +25,8 @@ next_link kept x = link_in (λ d. d.links.next) (slice_get kept x)
 abbrev pub previous_link : List NodeData → ℕ → Option ℕ
 previous_link kept x = link_in (λ d. d.links.previous) (slice_get kept x)
 
--- the nodes that are kept so: a node's children are its first one and what the links to the next ones lead to
+-- the nodes that are kept so: a node's children are its first one and what the links to the next
+-- ones lead to
 abbrev pub shown_node : List NodeData → NodeData → DomNode
 shown_node kept d = node_with (way_up (next_link kept) (length kept) d.links.first) d
 
@@ -68,10 +69,13 @@ with_previous previous d = record d { links = record d.links { previous = previo
 
 -- a node in this parent, or in none, between these two
 abbrev pub with_place : Option ℕ → Option ℕ → Option ℕ → NodeData → NodeData
-with_place parent previous next d = record d { parent = parent; links = record d.links { previous = previous; next = next } }
+with_place parent previous next d =
+    record d { parent = parent; links = record d.links { previous = previous; next = next } }
 
--- a child's link to one side is changed, or, where no child is named, that of the parent to the end of this side
-abbrev pub side_set : (NodeData → NodeData) → (NodeData → NodeData) → ℕ → Option ℕ → List NodeData → List NodeData
+-- a child's link to one side is changed, or, where no child is named, that of the parent to the end
+-- of this side
+abbrev pub side_set : (NodeData → NodeData) → (NodeData → NodeData) → ℕ → Option ℕ → List NodeData
+    → List NodeData
 side_set of_parent of_child parent None kept = changed of_parent parent kept
 side_set of_parent of_child parent (Some x) kept = changed of_child x kept
 
@@ -81,17 +85,20 @@ followed parent at next kept = side_set (with_first next) (with_next next) paren
 
 -- this stands in front of a child, or last in the parent
 abbrev pub preceded : ℕ → Option ℕ → Option ℕ → List NodeData → List NodeData
-preceded parent at previous kept = side_set (with_last previous) (with_previous previous) parent at kept
+preceded parent at previous kept =
+    side_set (with_last previous) (with_previous previous) parent at kept
 
 -- a child is taken out from between two
 abbrev pub taken_out : ℕ → ℕ → Option ℕ → Option ℕ → List NodeData → List NodeData
 taken_out parent child previous next kept =
-    changed (with_place None None None) child (preceded parent next previous (followed parent previous next kept))
+    changed (with_place None None None) child
+    (preceded parent next previous (followed parent previous next kept))
 
 -- a child is put between two
 abbrev pub put_between : ℕ → ℕ → Option ℕ → Option ℕ → List NodeData → List NodeData
 put_between parent child previous next kept =
-    changed (with_place (Some parent) previous next) child (preceded parent next (Some child) (followed parent previous (Some child) kept))
+    changed (with_place (Some parent) previous next) child
+    (preceded parent next (Some child) (followed parent previous (Some child) kept))
 
 -- the links of a node in no parent and without children
 abbrev pub no_links : Links
