@@ -30,6 +30,10 @@ module _ {X : Type 0} (next : X → Option ℕ) (xs : List X) (back : LeadsBack 
   pub chain-step : (n : ℕ) (x : X) → slice_get xs n ≡ Some x → chain next xs (Some n) ≡ n ∷ chain next xs (next x)
   chain-step n x e = ap (link next n (chain_to next n xs)) e ∙ ap (λ r. n ∷ r) (chain-from n (next x) (back n x e))
 
+  -- the number to which another leads is below
+  pub led-below : (n m : ℕ) (x : X) → slice_get xs n ≡ Some x → next x ≡ Some m → m < n
+  led-below n m x e leads = let P : Option ℕ → Type 0 = λ p. IsBelow n p in subst P leads (back n x e)
+
   pub first-here : {A : Type 0} (f : ℕ → Option A) (n : ℕ) (x : X) (a : A) → slice_get xs n ≡ Some x → f n ≡ Some a → first_some f (chain next xs (Some n)) ≡ Some a
   first-here f n x a e h = ap (first_some f) (chain-step n x e) ∙ ap (λ o. or_else o (first_some f (chain next xs (next x)))) h
 

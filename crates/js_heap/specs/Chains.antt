@@ -1,4 +1,5 @@
--- Chains of what stands in a list, each leading to one before it: prototypes (ECMA-262 edition 5.1, 8.6.2) and the scopes around a scope (10.2.1.1).
+-- Chains of what stands in a list, each leading to one before it: prototypes (ECMA-262 edition 5.1,
+-- 8.6.2) and the scopes around a scope (10.2.1.1).
 use Rattle.std.specs.Prelude.{◌≡◌, ℕ, zero, suc, ◌<◌, List, [], ◌∷◌, Option, Some, None, slice_get}
 
 -- the number, if there is one, is below
@@ -24,6 +25,10 @@ module _ {X : Type 0} (next : X → Option ℕ) where
   abbrev pub chain : List X → Option ℕ → List ℕ
   chain xs None = []
   chain xs (Some n) = chain_to (suc n) xs (Some n)
+
+  -- a chain is its first number, and then the chain of what that one leads to
+  abbrev pub LeadsOn : List X → Type 0
+  LeadsOn xs = (n : ℕ) (x : X) → slice_get xs n ≡ Some x → chain xs (Some n) ≡ n ∷ chain xs (next x)
 
 abbrev pub or_else : {A : Type 0} → Option A → Option A → Option A
 or_else (Some a) o = Some a

@@ -30,7 +30,8 @@ IsAmong count v = IsBelow count (object_named v)
 -- there are so many objects and scopes that what the class names is among them
 abbrev pub ClassIsAmong : ℕ → ℕ → Class → Type 0
 ClassIsAmong objects scopes (class.Function f) = IsBelow scopes (option_map scope_number f.scope)
-ClassIsAmong objects scopes (class.Bound b) = IsAmong objects b.f × IsAmong objects b.this × Each (IsAmong objects) b.args
+ClassIsAmong objects scopes (class.Bound b) =
+    IsAmong objects b.f × IsAmong objects b.this × Each (IsAmong objects) b.args
 ClassIsAmong objects scopes c = Unit {0}
 
 -- the first property is `length`, a whole number from 0 to 2^32 - 1
@@ -59,8 +60,8 @@ pub record ObjectIsAmong (objects scopes : ℕ) (o : Object) : Type 0 where
 abbrev pub ScopeIsAmong : ℕ → Scope → Type 0
 ScopeIsAmong objects s = Each (BindingIsAmong objects) s.names
 
--- Each prototype, and each scope around a scope, stands before what has it; values and classes name only what is there; each array has a
--- `length`.
+-- Each prototype, and each scope around a scope, stands before what has it; values and classes name
+-- only what is there; each array has a `length`.
 pub record IsClosed (w : World) : Type 0 where
   pub prototypes : LeadsBack prototype_number w.objects
   pub parents : LeadsBack parent_number w.scopes

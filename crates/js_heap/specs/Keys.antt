@@ -11,6 +11,7 @@ use Rattle.js_heap.specs.World.{Object, Property, World}
 abbrev pub properties_along : List Object → Option ℕ → List Property
 properties_along os p = flat_map (λ n. properties_in os n) (chain prototype_number os p)
 
--- the first property of each name hides the others of the name; the names of those that are listed, in their order
+-- the first property of each name hides the others of the name; the names of those that are listed,
+-- in their order
 abbrev pub keys : World → ObjId → List (List ℕ)
 keys w o = listed_names (properties_along w.objects (Some o.number))

@@ -13,7 +13,9 @@ value_bound x (b ∷ bs) = if text_equal x b.name then Some b.value else value_b
 -- after a value is given to the name: in its place, or as the last name
 abbrev pub with_binding : List ℕ → Value → List Binding → List Binding
 with_binding x v [] = record { name = x; value = v } ∷ []
-with_binding x v (b ∷ bs) = if text_equal x b.name then record { name = b.name; value = v } ∷ bs else b ∷ with_binding x v bs
+with_binding x v (b ∷ bs) =
+    if text_equal x b.name then record { name = b.name; value = v } ∷ bs
+    else b ∷ with_binding x v bs
 
 abbrev pub binding_of : Property → Binding
 binding_of p = record { name = p.name; value = p.value }

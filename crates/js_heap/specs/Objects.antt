@@ -24,14 +24,19 @@ class_of o = o.class
 abbrev pub prototype_of : Object → Option ObjId
 prototype_of o = o.prototype
 
--- an array's `length` is its first property (ECMA-262 edition 5.1, 15.4.5.2); other objects have none at first
+-- an array's `length` is its first property (ECMA-262 edition 5.1, 15.4.5.2); other objects have
+-- none at first
 abbrev pub first_properties : Class → List Property
-first_properties class.Array = record { name = codes "length"; value = value.Num (Whole (pos 0)); listed = false } ∷ []
+first_properties class.Array =
+    record { name = codes "length"; value = value.Num (Whole (pos 0)); listed = false } ∷ []
 first_properties c = []
 
 -- with one more object
 abbrev pub with_object : World → Class → Option ObjId → World
-with_object w c p = record { objects = w.objects ++ record { class = c; prototype = p; properties = first_properties c } ∷ []; scopes = w.scopes }
+with_object w c p = record {
+  objects = w.objects ++ record { class = c; prototype = p; properties = first_properties c } ∷ [];
+  scopes = w.scopes;
+}
 
 -- the own properties of the object of this number
 abbrev pub properties_in : List Object → ℕ → List Property
@@ -42,7 +47,8 @@ properties_at w o = properties_in w.objects o.number
 
 -- the value of the name in the first object along the prototypes that has it
 abbrev pub value_along : List Object → Option ℕ → List ℕ → Option Value
-value_along os p x = first_some (λ n. value_named x (properties_in os n)) (chain prototype_number os p)
+value_along os p x =
+    first_some (λ n. value_named x (properties_in os n)) (chain prototype_number os p)
 
 -- the value of an object's own property (8.12.1)
 abbrev pub get_own : World → ObjId → List ℕ → Option Value
@@ -62,7 +68,11 @@ abbrev pub gives_up : Object → List ℕ → Bool
 gives_up o x = not (is_length o.class x) && is_some (property_named x o.properties)
 
 abbrev pub object_without : List ℕ → Object → Object
-object_without x o = record { class = o.class; prototype = o.prototype; properties = if is_length o.class x then o.properties else without x o.properties }
+object_without x o = record {
+  class = o.class;
+  prototype = o.prototype;
+  properties = if is_length o.class x then o.properties else without x o.properties;
+}
 
 -- the objects after that of this number is changed
 abbrev pub changed_at : List Object → ℕ → (Object → Object) → List Object
@@ -73,4 +83,7 @@ gives_up_at os n x = option_map_or (λ o. gives_up o x) (slice_get os n) false
 
 -- after an own property is removed, where the object gives it up
 abbrev pub remove : World → ObjId → List ℕ → World
-remove w o x = record { objects = changed_at w.objects o.number (object_without x); scopes = w.scopes }
+remove w o x = record {
+  objects = changed_at w.objects o.number (object_without x);
+  scopes = w.scopes;
+}

@@ -16,10 +16,18 @@ with_put class.Array x v listed ps = with_element x v listed ps
 with_put c x v listed ps = with_property x v listed ps
 
 abbrev pub object_with : List ℕ → Value → Bool → Object → Object
-object_with x v listed o = record { class = o.class; prototype = o.prototype; properties = with_put o.class x v listed o.properties }
+object_with x v listed o = record {
+  class = o.class;
+  prototype = o.prototype;
+  properties = with_put o.class x v listed o.properties;
+}
 
 abbrev pub object_cut : ℕ → Object → Object
-object_cut n o = record { class = o.class; prototype = o.prototype; properties = cut n o.properties }
+object_cut n o = record {
+  class = o.class;
+  prototype = o.prototype;
+  properties = cut n o.properties;
+}
 
 -- the value is no length, and would be an array's
 abbrev pub refuses : Object → List ℕ → Value → Bool
@@ -31,8 +39,14 @@ refuses_at os n x v = option_map_or (λ o. refuses o x v) (slice_get os n) false
 
 -- after an own property of the object is given a value (8.12.5, 15.4.5.1)
 abbrev pub put : World → ObjId → List ℕ → Value → Bool → World
-put w o x v listed = record { objects = changed_at w.objects o.number (object_with x v listed); scopes = w.scopes }
+put w o x v listed = record {
+  objects = changed_at w.objects o.number (object_with x v listed);
+  scopes = w.scopes;
+}
 
 -- after an array is given this length
 abbrev pub set_length : World → ObjId → ℕ → World
-set_length w o n = record { objects = changed_at w.objects o.number (object_cut n); scopes = w.scopes }
+set_length w o n = record {
+  objects = changed_at w.objects o.number (object_cut n);
+  scopes = w.scopes;
+}

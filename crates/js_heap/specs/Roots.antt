@@ -36,6 +36,7 @@ to_prototype p = option_map id_of p
 abbrev pub builtin : Option ObjId → Object
 builtin p = record { class = Builtin None; prototype = p; properties = [] }
 
--- the window and the prototypes: that of Object has none, those of the four error names have that of Error, and the others that of Object
+-- the window and the prototypes: that of Object has none, those of the four error names have that
+-- of Error, and the others that of Object
 abbrev pub first_world : World
 first_world = record { objects = map builtin (map to_prototype FIRST); scopes = [] }

@@ -15,7 +15,10 @@ parent_number s = option_map scope_number s.parent
 
 -- with one more scope
 abbrev pub with_scope : World → Option ScopeId → World
-with_scope w p = record { objects = w.objects; scopes = w.scopes ++ record { parent = p; names = [] } ∷ [] }
+with_scope w p = record {
+  objects = w.objects;
+  scopes = w.scopes ++ record { parent = p; names = [] } ∷ [];
+}
 
 -- the names of the scope of this number
 abbrev pub names_in : List Scope → ℕ → List Binding
@@ -31,7 +34,9 @@ number_if false n = None
 
 -- the first scope along those around that has the name
 abbrev pub holder : List Scope → Option ℕ → List ℕ → Option ℕ
-holder ss p x = first_some (λ n. number_if (is_some (value_bound x (names_in ss n))) n) (chain parent_number ss p)
+holder ss p x =
+    first_some (λ n. number_if (is_some (value_bound x (names_in ss n))) n)
+    (chain parent_number ss p)
 
 abbrev pub named_scope : List ℕ → Value → Scope → Scope
 named_scope x v s = record { parent = s.parent; names = with_binding x v s.names }

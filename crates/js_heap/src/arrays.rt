@@ -72,8 +72,10 @@ fn put_element(
     value: Value,
     listed: bool,
 ) -> Result<(), PutFault>
-    ensures bad { result ≡ Err PutFault.BadLength ↔ ((text_equal name.now (codes "length") ≡ true) × (spec.length_in value ≡ None)) }
-    ensures ok { OnOk result (properties.new ≡ spec.with_element name.now value listed properties.old) }
+    ensures bad { result ≡ Err PutFault.BadLength ↔
+        ((text_equal name.now (codes "length") ≡ true) × (spec.length_in value ≡ None)) }
+    ensures ok { OnOk result
+        (properties.new ≡ spec.with_element name.now value listed properties.old) }
     ensures err { OnErr result (properties.new ≡ properties.old) }
 {
     if name.as_slice() == LENGTH.as_slice() {
@@ -95,7 +97,8 @@ pub(crate) fn put_in(
     value: Value,
     listed: bool,
 ) -> Result<(), PutFault>
-    ensures bad { result ≡ Err PutFault.BadLength ↔ (puts.refuses object.old name.now value ≡ true) }
+    ensures bad { result ≡ Err PutFault.BadLength ↔
+        (puts.refuses object.old name.now value ≡ true) }
     ensures ok { OnOk result (object.new ≡ puts.object_with name.now value listed object.old) }
     ensures err { OnErr result (object.new ≡ object.old) }
 {
@@ -114,7 +117,8 @@ fn put_spelled(
     value: Value,
     listed: bool,
 ) -> Result<(), NoMemory>
-    ensures ok { OnOk result (properties.new ≡ spec.with_element (decimal index) value listed properties.old) }
+    ensures ok { OnOk result
+        (properties.new ≡ spec.with_element (decimal index) value listed properties.old) }
     ensures err { OnErr result (properties.new ≡ properties.old) }
 {
     properties.put_units(Spelling::of(index).as_slice(), value, listed)?;
@@ -131,7 +135,8 @@ pub(crate) fn put_at(
     value: Value,
     listed: bool,
 ) -> Result<(), NoMemory>
-    ensures ok { OnOk result (object.new ≡ puts.object_with (decimal index) value listed object.old) }
+    ensures ok { OnOk result
+        (object.new ≡ puts.object_with (decimal index) value listed object.old) }
     ensures err { OnErr result (object.new ≡ object.old) }
 {
     if matches!(object.class, Class::Array) {

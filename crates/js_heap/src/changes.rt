@@ -37,8 +37,8 @@ pub(crate) fn put_element(
     listed: bool,
 ) -> Result<(), NoMemory>
     requires { obj.number < length objects.old.items }
-    ensures ok { OnOk result (objects.new.items ≡
-        spec.changed_at objects.old.items obj.number (puts.object_with (decimal index) value listed)) }
+    ensures ok { OnOk result (objects.new.items ≡ spec.changed_at objects.old.items obj.number
+        (puts.object_with (decimal index) value listed)) }
     ensures err { OnErr result (objects.new.items ≡ objects.old.items) }
 {
     put_at(&mut objects[obj.number as usize], index, value, listed)

@@ -8,7 +8,8 @@ pub struct ScopeId {
     pub number: u32,
 }
 
-/// What a page function runs: the function that begins at a unit of a text, in a scope. At the top of a text there is none.
+/// What a page function runs: the function that begins at a unit of a text, in a scope. At the top
+/// of a text there is none.
 #[derive(Clone, Copy, Debug, PartialEq, Eq)]
 pub struct Code {
     /// The text's number, in the order in which texts were read.
@@ -18,7 +19,8 @@ pub struct Code {
     pub scope: Option<ScopeId>,
 }
 
-/// What a bound function calls, with which `this`, and with these arguments before those of its own call (ECMA-262 edition 5.1, 15.3.4.5).
+/// What a bound function calls, with which `this`, and with these arguments before those of its own
+/// call (ECMA-262 edition 5.1, 15.3.4.5).
 #[derive(Debug, Drop)]
 pub struct Bound {
     pub f: Value,

@@ -4,7 +4,8 @@ ghost use Rattle.std.specs.Prelude.{◌≡◌};
 use mug_text::{INDEX_END, NoMemory};
 use thiserror::Error;
 
-/// The objects of a heap, and its scopes: at most so many, so that each number and each count is an array index.
+/// The objects of a heap, and its scopes: at most so many, so that each number and each count is an
+/// array index.
 pub const COUNT_LIMIT: usize = INDEX_END as usize - 1;
 
 /// Why there is no new object or scope.

@@ -23,7 +23,8 @@ use mug_text::{JText, Listed, NoMemory};
 use std::alloc::Global;
 use std::marker::Model;
 
-/// Objects and scopes by number. Each prototype, and each scope around a scope, has a lower number than what has it; what values and classes name is there; each array has a `length`.
+/// Objects and scopes by number. Each prototype, and each scope around a scope, has a lower number
+/// than what has it; what values and classes name is there; each array has a `length`.
 #[derive(Drop)]
 pub struct Heap {
     objects: Vec<Object>,
@@ -41,7 +42,8 @@ impl Model for Heap {
 
     ghost view = { λ h. world_of h.objects.items h.scopes.items };
 
-    ghost invariant = { λ h. IsKept h.objects.items h.scopes.items × (h.length_name ≡ codes "length") };
+    ghost invariant = { λ h.
+        IsKept h.objects.items h.scopes.items × (h.length_name ≡ codes "length") };
 }
 
 impl Heap {
@@ -93,9 +95,11 @@ impl Heap {
         root.id()
     }
 
-    /// A new object, without properties but an array's `length`. Its number is that of the objects before it.
+    /// A new object, without properties but an array's `length`. Its number is that of the objects
+    /// before it.
     pub fn new_object(&mut self, class: Class, prototype: Option<ObjId>) -> Result<ObjId, HeapFault>
-        requires prototype { IsBelow (length self.old.objects) (option_map objects.id_number prototype) }
+        requires prototype { IsBelow (length self.old.objects)
+            (option_map objects.id_number prototype) }
         requires class { ClassIsThere self.old class }
         ensures number { IfOk result (λ o. o.number ≡ length self.old.objects) }
         ensures made { OnOk result (self.new ≡ objects.with_object self.old class prototype) }
@@ -138,7 +142,8 @@ impl Heap {
     /// The object's class.
     pub fn class(&self, obj: ObjId) -> &Class
         requires { obj.number < length self.now.objects }
-        ensures class { option_map objects.class_of (slice_get self.now.objects obj.number) ≡ Some result.now }
+        ensures class { option_map objects.class_of (slice_get self.now.objects obj.number) ≡
+            Some result.now }
         ensures there { ClassIsThere self.now result.now }
     {
         &self.objects[obj.number as usize].class
@@ -147,7 +152,8 @@ impl Heap {
     /// The object's prototype, which has a lower number.
     pub fn prototype(&self, obj: ObjId) -> Option<ObjId>
         requires { obj.number < length self.now.objects }
-        ensures prototype { option_map objects.prototype_of (slice_get self.now.objects obj.number) ≡ Some result }
+        ensures prototype { option_map objects.prototype_of
+            (slice_get self.now.objects obj.number) ≡ Some result }
         ensures before { IsBelow obj.number (option_map objects.id_number result) }
     {
         self.objects[obj.number as usize].prototype
@@ -182,7 +188,9 @@ impl Heap {
         value_along(&self.objects, obj, Spelling::of(index).as_slice())
     }
 
-    /// The names that for-in goes through: those of the object in the order in which they were added, then those of its prototype, and so on, without what isn't listed; the first property of a name hides the others.
+    /// The names that for-in goes through: those of the object in the order in which they were
+    /// added, then those of its prototype, and so on, without what isn't listed; the first property
+    /// of a name hides the others.
     pub fn keys(&self, obj: ObjId) -> Result<Listed<JText>, NoMemory>
         requires { obj.number < length self.now.objects }
         ensures { IfOk result (λ names. names ≡ listing.keys self.now obj) }
@@ -190,7 +198,9 @@ impl Heap {
         keys_along(*self.objects.allocator(), &self.objects, obj)
     }
 
-    /// Gives the object's own property this value, in its place and as listed as before, or as the last one. An array's index at or above its `length` raises that, and a lower `length` takes the elements from it on away.
+    /// Gives the object's own property this value, in its place and as listed as before, or as the
+    /// last one. An array's index at or above its `length` raises that, and a lower `length` takes
+    /// the elements from it on away.
     pub fn put(
         &mut self,
         obj: ObjId,
@@ -208,7 +218,8 @@ impl Heap {
         put_property(&mut self.objects, obj, key, value, listed)
     }
 
-    /// What `put` does to the number's decimal spelling, of which a text is made only where the object hasn't the property.
+    /// What `put` does to the number's decimal spelling, of which a text is made only where the
+    /// object hasn't the property.
     pub fn put_at(
         &mut self,
         obj: ObjId,
@@ -227,13 +238,15 @@ impl Heap {
     /// Gives an array this `length`; a lower one takes the elements from it on away.
     pub fn set_length(&mut self, obj: ObjId, new_length: u32)
         requires there { obj.number < length self.old.objects }
-        requires array { option_map objects.class_of (slice_get self.old.objects obj.number) ≡ Some Class.Array }
+        requires array { option_map objects.class_of (slice_get self.old.objects obj.number) ≡
+            Some Class.Array }
         ensures { self.new ≡ puts.set_length self.old obj new_length }
     {
         cut_array(&mut self.objects, obj, new_length);
     }
 
-    /// Removes the object's own property; false exactly where it has no such property, or where that is an array's `length`, which stays.
+    /// Removes the object's own property; false exactly where it has no such property, or where
+    /// that is an array's `length`, which stays.
     pub fn remove(&mut self, obj: ObjId, key: &JText) -> bool
         requires { obj.number < length self.old.objects }
         ensures found { result ≡ objects.gives_up_at self.old.objects obj.number key.now }
@@ -261,7 +274,8 @@ impl Heap {
         along::value_along(&self.scopes, scope, name.as_slice())
     }
 
-    /// Gives another value to the name in the nearest scope that has it; false exactly where no scope has it.
+    /// Gives another value to the name in the nearest scope that has it; false exactly where no
+    /// scope has it.
     pub fn assign(&mut self, scope: ScopeId, name: &JText, value: Value) -> bool
         requires scope { scope.number < length self.old.scopes }
         requires value { IsThere self.old value }

@@ -67,7 +67,8 @@ pub(crate) fn keys_along(
 ) -> Result<Listed<JText>, NoMemory>
     requires back { LeadsBack spec.prototype_number objects.now }
     requires there { obj.number < length objects.now }
-    ensures { IfOk result (λ names. names ≡ listed_names (properties_along objects.now (Some obj.number))) }
+    ensures { IfOk result (λ names. names ≡
+        listed_names (properties_along objects.now (Some obj.number))) }
 {
     let mut seen = IndexSet::new(alloc);
     let mut names = Listed::new(alloc);

@@ -4,7 +4,8 @@ ghost use Rattle.js_heap.specs.Roots.{root_number};
 
 use js_value::ObjId;
 
-/// The objects that a heap holds from the start: the window and the prototypes of the built-ins and of the host's objects.
+/// The objects that a heap holds from the start: the window and the prototypes of the built-ins and
+/// of the host's objects.
 #[derive(Clone, Copy, Debug, PartialEq, Eq)]
 pub enum Root {
     ObjectPrototype,

@@ -46,9 +46,11 @@ pub(crate) fn value_along<'a>(
 pub(crate) fn holder(scopes: &[Scope], scope: ScopeId, name: &[u16]) -> Option<ScopeId>
     requires back { LeadsBack spec.parent_number scopes.now }
     requires there { scope.number < length scopes.now }
-    ensures holder { option_map spec.scope_number result ≡ spec.holder scopes.now (Some scope.number) name.now }
+    ensures holder { option_map spec.scope_number result ≡
+        spec.holder scopes.now (Some scope.number) name.now }
     ensures within { IfSome result (λ s. s.number < length scopes.now) }
-    ensures named { IfSome result (λ s. is_some (value_bound name.now (spec.names_in scopes.now s.number)) ≡ true) }
+    ensures named { IfSome result (λ s.
+        is_some (value_bound name.now (spec.names_in scopes.now s.number)) ≡ true) }
 {
     let mut at = scope;
     loop {
@@ -71,7 +73,8 @@ pub(crate) fn name_scope(
     value: Value,
 ) -> Result<(), NoMemory>
     requires { scope.number < length scopes.old.items }
-    ensures ok { OnOk result (scopes.new.items ≡ spec.named_in scopes.old.items scope.number name.now value) }
+    ensures ok { OnOk result (scopes.new.items ≡
+        spec.named_in scopes.old.items scope.number name.now value) }
     ensures err { OnErr result (scopes.new.items ≡ scopes.old.items) }
 {
     scopes[scope.number as usize].names.put(name, value)
@@ -80,7 +83,8 @@ pub(crate) fn name_scope(
 // Gives another value to a name that the scope has.
 pub(crate) fn rename(scopes: &mut Vec<Scope>, scope: ScopeId, name: &JText, value: Value)
     requires there { scope.number < length scopes.old.items }
-    requires named { is_some (value_bound name.now (spec.names_in scopes.old.items scope.number)) ≡ true }
+    requires named { is_some (value_bound name.now
+        (spec.names_in scopes.old.items scope.number)) ≡ true }
     ensures { scopes.new.items ≡ spec.named_in scopes.old.items scope.number name.now value }
 {
     scopes[scope.number as usize]

@@ -8,7 +8,9 @@ use Rattle.js_table.specs.declared.property.Property.{Property}
 
 -- the array index whose decimal spelling the name is
 abbrev pub index_of : List ℕ → Option ℕ
-index_of x = if nat_lt (digits_value 10 x) INDEX_END && text_equal x (decimal (digits_value 10 x)) then Some (digits_value 10 x) else None
+index_of x =
+    if nat_lt (digits_value 10 x) INDEX_END && text_equal x (decimal (digits_value 10 x))
+    then Some (digits_value 10 x) else None
 
 -- the name is an index from `low` on, below `high`
 abbrev pub is_within : ℕ → ℕ → List ℕ → Bool

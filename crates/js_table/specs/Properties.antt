@@ -23,7 +23,9 @@ with_property x v listed (p ∷ ps) =
 -- after the property of this name, if there is one, is given another value
 abbrev pub with_value : List ℕ → Value → List Property → List Property
 with_value x v [] = []
-with_value x v (p ∷ ps) = if text_equal x p.name then record { name = p.name; value = v; listed = p.listed } ∷ ps else p ∷ with_value x v ps
+with_value x v (p ∷ ps) =
+    if text_equal x p.name then record { name = p.name; value = v; listed = p.listed } ∷ ps
+    else p ∷ with_value x v ps
 
 -- without the property of this name
 abbrev pub without : List ℕ → List Property → List Property

@@ -33,7 +33,8 @@ impl Hash for Units<'_> {
 impl Equivalent<JText> for Units<'_> {
     ghost equivalent = { λ units text. pointwise nat_eq units.0.now text };
 
-    ghost respects_hash = { λ units text h. ap (fed.slice fed.u16) ((bytes_decides units.0.now text).0 h) };
+    ghost respects_hash = { λ units text h.
+        ap (fed.slice fed.u16) ((bytes_decides units.0.now text).0 h) };
 
     ghost respects_eq = { λ units x y. nat_list_eq_equiv.congr units.0.now x y };
 

@@ -13,7 +13,8 @@ fn list_property(
     seen: &mut IndexSet<JText>,
     names: &mut Listed<JText>,
 ) -> Result<(), NoMemory>
-    ensures { OnOk result ((rest : List Property) → ListsMore seen.old.keys names.old (property.now ∷ rest) seen.new.keys names.new rest) }
+    ensures { OnOk result ((rest : List Property) →
+        ListsMore seen.old.keys names.old (property.now ∷ rest) seen.new.keys names.new rest) }
 {
     if seen.insert(property.name.copy()?)? && property.listed {
         names.push(property.name.copy()?)?;
@@ -27,7 +28,8 @@ pub(crate) fn list_slots(
     seen: &mut IndexSet<JText>,
     names: &mut Listed<JText>,
 ) -> Result<(), NoMemory>
-    ensures { OnOk result ((rest : List Property) → ListsMore seen.old.keys names.old (present slots.now ++ rest) seen.new.keys names.new rest) }
+    ensures { OnOk result ((rest : List Property) → ListsMore seen.old.keys names.old
+        (present slots.now ++ rest) seen.new.keys names.new rest) }
 {
     for slot in slots {
         if let Some(property) = slot {

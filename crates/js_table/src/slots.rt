@@ -23,7 +23,8 @@ pub(crate) fn place_in(
     requires { IsIndexOf index.now slots.now }
     ensures place { result ≡ place_of name.now slots.now }
     ensures within { IfSome result (λ i. i < length slots.now) }
-    ensures stands { MatchOption result (property_named name.now (present slots.now) ≡ None) (λ i. Stands name.now slots.now i) }
+    ensures stands { MatchOption result (property_named name.now (present slots.now) ≡ None)
+        (λ i. Stands name.now slots.now i) }
 {
     match index {
         Some(index) => index.places.get(Units(name)).copied(),
@@ -71,7 +72,8 @@ pub(crate) fn places(
 // Writes the places anew, where gaps between the slots were closed.
 pub(crate) fn renumber(places: &mut IndexMap<JText, usize>, slots: &[Option<Property>])
     requires distinct { AreDistinct slots.now }
-    requires known { (x : List ℕ) → is_some (get text_equal places.old x) ≡ is_some (place_of x slots.now) }
+    requires known { (x : List ℕ) →
+        is_some (get text_equal places.old x) ≡ is_some (place_of x slots.now) }
     ensures { (x : List ℕ) → get text_equal places.new x ≡ place_of x slots.now }
 {
     for (i, slot) in slots.iter().enumerate() {
@@ -93,22 +95,43 @@ pub(crate) fn close_gaps(slots: &mut Vec<Option<Property>>)
 // Gives another value to the property at the place.
 pub(crate) fn write(slots: &mut Vec<Option<Property>>, place: usize, value: Value)
     requires { place < length slots.old.items }
-    ensures { (p : Property) → slice_get slots.old.items place ≡ Some (Some p) → slots.new.items ≡ slice_set slots.old.items place (Some (record p { value = value })) }
+    ensures { (p : Property) → slice_get slots.old.items place ≡ Some (Some p) →
+        slots.new.items ≡ slice_set slots.old.items place (Some (record p { value = value })) }
 {
     if let Some(property) = &mut slots[place] {
         property.value = value;
     }
 }
 
-// From how many slots on a table has an index.
-const MANY: usize = 8;
+// From how many slots on a table has an index, which takes about as much as they do.
+const MANY: usize = 16;
 
-// Makes room for one more slot: where there are few, for no more than that.
+// How many more there is made room for where there are so many and no room is left: an eighth of
+// them, so that few bytes lie idle and a new one takes constant time on average.
+fn more(count: usize) -> usize {
+    count / 8 + 1
+}
+
+// Makes room for one more slot.
 pub(crate) fn make_room(slots: &mut Vec<Option<Property>>) -> Result<(), NoMemory>
     ensures { slots.new.items ≡ slots.old.items }
 {
-    if slots.len() < MANY {
-        slots.reserve_exact(1)?;
+    let count = slots.len();
+    if count == slots.capacity() {
+        slots.reserve_exact(more(count))?;
+    }
+    Ok(())
+}
+
+// Makes room for one more name. The map doubles its columns with its table; what the columns have
+// beyond `more` is given back.
+fn make_place(places: &mut IndexMap<JText, usize>) -> Result<(), NoMemory>
+    ensures { (x : List ℕ) → get text_equal places.new x ≡ get text_equal places.old x }
+{
+    let count = places.len();
+    if count == places.capacity() {
+        places.reserve(1)?;
+        places.shrink_to(count.saturating_add(more(count)));
     }
     Ok(())
 }
@@ -135,9 +158,12 @@ pub(crate) fn index_many(
 
 // Writes down the place of a name.
 fn note(index: &mut Index, name: JText, place: usize) -> Result<(), NoMemory>
-    ensures ok { OnOk result ((x : List ℕ) → get text_equal index.new.places x ≡ (if text_equal name x then Some place else get text_equal index.old.places x)) }
-    ensures err { OnErr result ((x : List ℕ) → get text_equal index.new.places x ≡ get text_equal index.old.places x) }
+    ensures ok { OnOk result ((x : List ℕ) → get text_equal index.new.places x ≡
+        (if text_equal name x then Some place else get text_equal index.old.places x)) }
+    ensures err { OnErr result ((x : List ℕ) →
+        get text_equal index.new.places x ≡ get text_equal index.old.places x) }
 {
+    make_place(&mut index.places)?;
     index.places.insert(name, place)?;
     Ok(())
 }
@@ -229,7 +255,8 @@ fn keep_slots(slots: &mut Vec<Option<Property>>, low: u32, high: u32)
 
 // Keeps the names that are no such element.
 fn keep_places(places: &mut IndexMap<JText, usize>, low: u32, high: u32)
-    ensures { (x : List ℕ) → get text_equal places.new x ≡ (if elements.is_within low high x then None else get text_equal places.old x) }
+    ensures { (x : List ℕ) → get text_equal places.new x ≡
+        (if elements.is_within low high x then None else get text_equal places.old x) }
 {
     places.retain(|name, _place| !is_within(name, low, high));
 }
@@ -243,7 +270,8 @@ pub(crate) fn take_elements(
 )
     requires distinct { AreDistinct slots.old.items }
     requires index { IsIndexOf index.old slots.old.items }
-    ensures present { present slots.new.items ≡ elements.without_elements low high (present slots.old.items) }
+    ensures present { present slots.new.items ≡
+        elements.without_elements low high (present slots.old.items) }
     ensures distinct { AreDistinct slots.new.items }
     ensures index { IsIndexOf index.new slots.new.items }
 {

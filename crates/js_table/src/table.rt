@@ -67,7 +67,8 @@ impl Table {
 
     // Gives another value to the name, or gives it back where there is no property of the name.
     fn offer(&mut self, name: &[u16], value: Value) -> Option<Value>
-        ensures taken { IfNone result ((listed : Bool) → self.new ≡ with_property name.now value listed self.old) }
+        ensures taken { IfNone result ((listed : Bool) →
+            self.new ≡ with_property name.now value listed self.old) }
         ensures there { is_none result ≡ is_some (property_named name.now self.old) }
         ensures back { IfSome result (λ v. v ≡ value) }
         ensures unchanged { OnSome result (self.new ≡ self.old) }
@@ -122,10 +123,12 @@ impl Table {
         add_slot(&mut self.slots, &mut self.index, property)
     }
 
-    /// Gives another value to the name, which takes no memory; false where there is no property of the name.
+    /// Gives another value to the name, which takes no memory; false where there is no property of
+    /// the name.
     pub fn replace(&mut self, name: &[u16], value: Value) -> bool
         ensures found { result ≡ is_some (property_named name.now self.old) }
-        ensures replaced { (listed : Bool) → result ≡ true → self.new ≡ with_property name.now value listed self.old }
+        ensures replaced { (listed : Bool) → result ≡ true →
+            self.new ≡ with_property name.now value listed self.old }
         ensures unchanged { result ≡ false → self.new ≡ self.old }
     {
         self.offer(name, value).is_none()
@@ -151,7 +154,8 @@ impl Table {
         self.replace(name, value);
     }
 
-    /// Removes the elements from `low` on, below `high`, in time for each property or for each number between, whichever are fewer.
+    /// Removes the elements from `low` on, below `high`, in time for each property or for each
+    /// number between, whichever are fewer.
     pub fn remove_elements(&mut self, low: u32, high: u32)
         requires { low ≤ high }
         ensures { self.new ≡ without_elements low high self.old }
@@ -190,7 +194,8 @@ impl Table {
         seen: &mut IndexSet<JText>,
         names: &mut Listed<JText>,
     ) -> Result<(), NoMemory>
-        ensures { OnOk result ((rest : List Property) → ListsMore seen.old.keys names.old (self.now ++ rest) seen.new.keys names.new rest) }
+        ensures { OnOk result ((rest : List Property) →
+            ListsMore seen.old.keys names.old (self.now ++ rest) seen.new.keys names.new rest) }
     {
         list_slots(&self.slots, seen, names)
     }

@@ -1,4 +1,5 @@
--- One XMLHttpRequest object (XMLHttpRequest Standard, 3): unsent, opened or done; the states 2 and 3 are left out.
+-- One XMLHttpRequest object (XMLHttpRequest Standard, 3): unsent, opened or done; the states 2 and
+-- 3 are left out.
 use Rattle.std.specs.Prelude.{ℕ, Bool, true, false, is_some, List, [], Option, Some, None}
 pub use Rattle.request_model.specs.declared.request.Request.{Request}
 use Rattle.request_model.specs.declared.request.Request.TheVariants.{Unsent, Opened, Done}
@@ -47,7 +48,8 @@ waiting n Unsent = Unsent
 waiting n (Opened m u f) = Opened m u (Some n)
 waiting n (Done s t) = Done s t
 
--- after `abort` (3.5.7): done with status 0 where it was in flight; a done one is unsent, with status 0 and an empty text; any other stays
+-- after `abort` (3.5.7): done with status 0 where it was in flight; a done one is unsent, with
+-- status 0 and an empty text; any other stays
 abbrev pub after_abort : Request → Request
 after_abort Unsent = Unsent
 after_abort (Opened m u None) = Opened m u None

@@ -1,4 +1,5 @@
--- The requests of a page: its objects, each by its place, and its flights, each by its number, from 1 on.
+-- The requests of a page: its objects, each by its place, and its flights, each by its number, from
+-- 1 on.
 use Rattle.std.specs.Prelude.{◌≡◌, ℕ, zero, suc, ◌+◌, ◌<◌, ◌≤◌, ◌==◌, ◌&&◌, Bool, true, false, List, [], ◌∷◌, ◌++◌, length, All, Option, Some, None, slice_get, slice_set}
 use Rattle.std.specs.Option.{option_and_then, option_map_or}
 use Rattle.request_model.specs.Request.{Request, flight_of, can_send, after_abort}
@@ -45,7 +46,8 @@ with_request x o q = record q { requests = slice_set q.requests x o }
 abbrev pub made : RequestList → RequestList
 made q = record q { requests = q.requests ++ Unsent ∷ [] }
 
--- after `open` (XMLHttpRequest Standard, 3.5.1): a flight is given up, the status is 0 and the text empty
+-- after `open` (XMLHttpRequest Standard, 3.5.1): a flight is given up, the status is 0 and the text
+-- empty
 abbrev pub opened : ℕ → List ℕ → List ℕ → RequestList → RequestList
 opened x method url q = with_request x (Opened method url None) q
 
@@ -83,7 +85,8 @@ aborted x q = option_map_or (λ o. with_request x (after_abort o) q) (slice_get 
 
 -- the object that sent this is done, with this status and text
 abbrev pub ended : ℕ → ℕ → Option (List ℕ) → RequestList → RequestList
-ended r status text q = option_map_or (λ f. with_request f.request (Done status text) q) (flight_at r q) q
+ended r status text q =
+    option_map_or (λ f. with_request f.request (Done status text) q) (flight_at r q) q
 
 -- after a reply
 abbrev pub replied : ℕ → ℕ → List ℕ → RequestList → RequestList

@@ -1,12 +1,13 @@
 // Why there is no new request.
 ghost use Rattle.std.specs.Prelude.{◌≡◌};
 
-use mug_text::NoMemory;
+use mug_text::{INDEX_END, NoMemory};
 use std::alloc::AllocError;
 use thiserror::Error;
 
-/// The objects, and the numbers of flights, from 1 on: at most so many of each.
-pub const REQUEST_LIMIT: usize = 0xFFFF_FFFE;
+/// The objects, and the numbers of flights, from 1 on: at most so many of each, so that each number
+/// is an array index.
+pub const REQUEST_LIMIT: usize = INDEX_END as usize - 1;
 
 /// Why there is no new object, or why none was sent.
 #[derive(Clone, Copy, Debug, PartialEq, Eq, Error)]

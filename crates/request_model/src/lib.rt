@@ -1,4 +1,5 @@
-//! Requests of a page: what its XMLHttpRequest objects have come to, and which of them are in flight (XMLHttpRequest Standard).
+//! Requests of a page: what its XMLHttpRequest objects have come to, and which of them are in
+//! flight (XMLHttpRequest Standard).
 #![tactic(auto)]
 
 mod fault;

@@ -10,13 +10,15 @@ use mug_text::JText;
 pub enum Request {
     /// State 0: not opened.
     Unsent,
-    /// State 1: opened, with the method and the URL that were given, and the number of its flight from `send` on.
+    /// State 1: opened, with the method and the URL that were given, and the number of its flight
+    /// from `send` on.
     Opened {
         method: JText,
         url: JText,
         flight: Option<u32>,
     },
-    /// State 4: done, with the status, 0 where there was no reply, and the response text, which is empty where there is none.
+    /// State 4: done, with the status, 0 where there was no reply, and the response text, which is
+    /// empty where there is none.
     Done {
         status: u16,
         text: Option<JText>,

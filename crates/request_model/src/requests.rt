@@ -23,7 +23,8 @@ impl Model for Requests {
 
     ghost view = { λ q. record { requests = q.requests.items; flights = q.flights.items } };
 
-    ghost invariant = { λ q. Fits (record { requests = q.requests.items; flights = q.flights.items }) };
+    ghost invariant = { λ q.
+        Fits (record { requests = q.requests.items; flights = q.flights.items }) };
 }
 
 fn push_request(requests: &mut Vec<Request>, request: Request) -> Result<(), AllocError>
@@ -123,10 +124,12 @@ impl Requests {
         Ok(at as u32)
     }
 
-    /// Opens the object for this method and URL, and gives up a flight; whether its state was another than 1.
+    /// Opens the object for this method and URL, and gives up a flight; whether its state was
+    /// another than 1.
     pub fn set_up(&mut self, at: u32, method: &JText, url: &JText) -> Result<bool, NoMemory>
         requires { at < length self.old.requests }
-        ensures new { IfOk result (λ new. new ≡ not (all.is_opened (slice_get self.old.requests at))) }
+        ensures new { IfOk result (λ new.
+            new ≡ not (all.is_opened (slice_get self.old.requests at))) }
         ensures opened { OnOk result (self.new ≡ all.opened at method.now url.now self.old) }
         ensures unchanged { OnErr result (self.new ≡ self.old) }
     {
@@ -148,7 +151,8 @@ impl Requests {
         ensures number { IfOk result (λ number. number ≡ length self.old.flights + 1) }
         ensures sent { OnOk result (self.new ≡ all.sent at self.old) }
         ensures state { result ≡ Err RequestFault.State ↔ (all.can_be_sent at self.old ≡ false) }
-        ensures full { result ≡ Err RequestFault.Full ↔ ((all.can_be_sent at self.old ≡ true) × (REQUEST_LIMIT ≤ length self.old.flights)) }
+        ensures full { result ≡ Err RequestFault.Full ↔
+            ((all.can_be_sent at self.old ≡ true) × (REQUEST_LIMIT ≤ length self.old.flights)) }
         ensures unchanged { OnErr result (self.new ≡ self.old) }
     {
         let request = &self.requests[at as usize];
@@ -166,7 +170,8 @@ impl Requests {
         Ok(number)
     }
 
-    /// Aborts the object's request; whether it was in flight. Then it is done with status 0; a done one is as if it was never opened, and any other stays as it is.
+    /// Aborts the object's request; whether it was in flight. Then it is done with status 0; a done
+    /// one is as if it was never opened, and any other stays as it is.
     pub fn abort(&mut self, at: u32) -> bool
         requires { at < length self.old.requests }
         ensures is { result ≡ option_map_or one.waits (slice_get self.old.requests at) false }
@@ -216,7 +221,8 @@ impl Requests {
     // The object that sent this.
     fn owner(&self, number: u32) -> u32
         requires { all.is_in_flight number self.now ≡ true }
-        ensures is { option_and_then (λ f. Some f.request) (all.flight_at number self.now) ≡ Some result }
+        ensures is { option_and_then (λ f. Some f.request) (all.flight_at number self.now) ≡
+            Some result }
         ensures there { result < length self.now.requests }
     {
         match flight_at(&self.flights, number) {

@@ -1,9 +1,11 @@
--- The timers of a page (HTML Standard, 8.6, "map of setTimeout and setInterval IDs"): a list in the order of their numbers.
+-- The timers of a page (HTML Standard, 8.6, "map of setTimeout and setInterval IDs"): a list in the
+-- order of their numbers.
 use Rattle.std.specs.Prelude.{◌≡◌, ℕ, ◌+◌, ◌<◌, ◌≤◌, max, Bool, false, ◌==◌, nat_lt, nat_le, ◌&&◌, ◌||◌, List, [], ◌∷◌, ◌++◌, Option, Some, None, find, All, Contains, MatchOption, IsSomeAnd, if◌then◌else◌}
 use Rattle.std.specs.List.{filter_map}
 use Rattle.std.specs.Option.{option_map}
 use Rattle.js_value.specs.declared.callable.Callable.{Callable}
--- a timer: its number, what it calls, the moment from which on it may fire, and the delay of an interval, which a timeout hasn't
+-- a timer: its number, what it calls, the moment from which on it may fire, and the delay of an
+-- interval, which a timeout hasn't
 pub use Rattle.timer_queue.specs.declared.timer.Timer.{Timer}
 
 -- how many numbers were given so far, and the timers that are set, in the order of their numbers
@@ -33,7 +35,8 @@ changed id change ts = filter_map (λ t. if t.id == id then change t else Some t
 abbrev pub cancelled : ℕ → Queue → Queue
 cancelled id q = record q { timers = changed id (λ t. None) q.timers }
 
--- after it fired at this clock: an interval fires next at the clock and the greater of its delay and 1; a timeout is gone
+-- after it fired at this clock: an interval fires next at the clock and the greater of its delay
+-- and 1; a timeout is gone
 abbrev pub set_anew : ℕ → Timer → Option Timer
 set_anew clock t = option_map (λ delay. record t { due = clock + max delay 1 }) t.every
 
@@ -79,4 +82,6 @@ pub record IsLeast (clock : ℕ) (ts : List Timer) (id : ℕ) (t : Timer) : Type
 
 -- what it means to be next: the least is due, or else none
 abbrev pub IsNextDue : ℕ → Queue → Option ℕ → Type 0
-IsNextDue clock q next = MatchOption next (All (λ t. clock < t.due) q.timers) (λ id. (t : Timer) × IsLeast clock q.timers id t)
+IsNextDue clock q next =
+    MatchOption next (All (λ t. clock < t.due) q.timers)
+    (λ id. (t : Timer) × IsLeast clock q.timers id t)

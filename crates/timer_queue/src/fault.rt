@@ -1,12 +1,12 @@
 // Why there is no new timer.
 ghost use Rattle.std.specs.Prelude.{◌≡◌};
 
-use mug_text::NoMemory;
+use mug_text::{INDEX_END, NoMemory};
 use std::alloc::AllocError;
 use thiserror::Error;
 
-/// The numbers that timers are given: at most so many, from 1 on.
-pub const TIMER_LIMIT: u32 = 0xFFFF_FFFE;
+/// The numbers that timers are given, from 1 on: at most so many, so that each is an array index.
+pub const TIMER_LIMIT: u32 = INDEX_END - 1;
 
 /// Why there is no new timer.
 #[derive(Clone, Copy, Debug, PartialEq, Eq, Error)]

@@ -1,11 +1,12 @@
-// Slots for timers, one for each number, as a tree over the list: its root is the slot in the middle, and the slots before and behind it are trees
-// again. Each root knows the least moment at which a timer of its tree is due.
+// Slots for timers, one for each number, as a tree over the list: its root is the slot in the
+// middle, and the slots before and behind it are trees again. Each root knows the least moment at
+// which a timer of its tree is due.
 ghost use Rattle.std.specs.Prelude.{◌≡◌, ◌-◌, ◌+◌, ◌<◌, ◌≤◌, ◌*◌, ◌^◌, ◌++◌, length, replicate, slice_set, None, IfSome, OnOk, OnErr};
 ghost use Rattle.std.specs.Option.{option_map};
 ghost use Rattle.timer_queue.specs.Queue.{IsDueAmong, number_due, soonest, timer_of};
 ghost use Rattle.timer_queue.specs.inner.Slots.{IsKept, AreHalvesKept, AreNumbered, IsLonger, Stands, due_in, first_with, least_due, present, timers_in};
 
-use crate::Timer;
+use crate::{TIMER_LIMIT, Timer};
 use std::alloc::AllocError;
 
 // No timer is due so late.
@@ -171,9 +172,10 @@ pub(crate) fn next_due(slots: &[Slot], clock: u64) -> Option<u32>
 // Slots without timers behind the others; the old tree is the part before the new root.
 fn grow(slots: &mut Vec<Slot>) -> Result<(), AllocError>
     requires kept { IsKept slots.old.items }
-    requires few { length slots.old.items < 2 ^ 32 }
+    requires few { length slots.old.items < TIMER_LIMIT }
     ensures kept { OnOk result (IsKept slots.new.items) }
-    ensures timers { OnOk result (timers_in slots.new.items ≡ timers_in slots.old.items ++ replicate (length slots.old.items + 1) None) }
+    ensures timers { OnOk result (timers_in slots.new.items ≡
+        timers_in slots.old.items ++ replicate (length slots.old.items + 1) None) }
     ensures err { OnErr result (slots.new.items ≡ slots.old.items) }
 {
     let before = slots.len();
@@ -187,10 +189,11 @@ fn grow(slots: &mut Vec<Slot>) -> Result<(), AllocError>
 pub(crate) fn make_room(slots: &mut Vec<Slot>, at: usize) -> Result<(), AllocError>
     requires kept { IsKept slots.old.items }
     requires next { at ≤ length slots.old.items }
-    requires few { at < 2 ^ 32 - 1 }
+    requires few { at < TIMER_LIMIT }
     ensures kept { OnOk result (IsKept slots.new.items) }
     ensures room { OnOk result (at < length slots.new.items) }
-    ensures timers { OnOk result (IsLonger (timers_in slots.old.items) (timers_in slots.new.items)) }
+    ensures timers { OnOk result
+        (IsLonger (timers_in slots.old.items) (timers_in slots.new.items)) }
     ensures err { OnErr result (slots.new.items ≡ slots.old.items) }
 {
     if at < slots.len() {

@@ -54,7 +54,8 @@ impl Timers {
         timer_of(&self.slots, id)
     }
 
-    /// Sets a timer that fires from this moment on, once, or again and again after this delay. Its number is the next one.
+    /// Sets a timer that fires from this moment on, once, or again and again after this delay. Its
+    /// number is the next one.
     pub fn add(&mut self, f: Callable, due: u64, every: Option<u64>) -> Result<u32, TimerFault>
         requires due { due < SAFE_END }
         requires every { ForSome every (λ delay. delay < SAFE_END) }
@@ -85,8 +86,8 @@ impl Timers {
         }
     }
 
-    /// The number of the timer that fires next at this clock: of those that are due the one that is due first, and of these the one of the
-    /// lowest number.
+    /// The number of the timer that fires next at this clock: of those that are due the one that is
+    /// due first, and of these the one of the lowest number.
     pub fn next_due(&self, clock: u64) -> Option<u32>
         ensures is { result ≡ queue.next_due clock self.now }
         ensures due { IfSome result (λ id. queue.IsDue id clock self.now) }
@@ -94,8 +95,8 @@ impl Timers {
         next_due(&self.slots, clock)
     }
 
-    /// Fires the timer of this number at this clock: a timeout is gone, and an interval fires next at the clock and the greater of its delay and
-    /// 1. What is to be called is given.
+    /// Fires the timer of this number at this clock: a timeout is gone, and an interval fires next
+    /// at the clock and the greater of its delay and 1. What is to be called is given.
     pub fn fired(&mut self, id: u32, clock: u64) -> Callable
         requires due { queue.IsDue id clock self.old }
         requires clock { clock < SAFE_END }

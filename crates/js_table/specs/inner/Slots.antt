@@ -1,4 +1,5 @@
--- How a table keeps its properties: in slots, in their order, with gaps where some were removed, and, where they are many, with their places by name.
+-- How a table keeps its properties: in slots, in their order, with gaps where some were removed,
+-- and, where they are many, with their places by name.
 use Rattle.std.specs.Prelude.{◌≡◌, ℕ, zero, suc, Bool, true, false, not, List, [], ◌∷◌, Option, Some, None, slice_get, if◌then◌else◌}
 use Rattle.std.specs.HashMap.{get}
 use Rattle.js_value.specs.Same.{text_equal}

@@ -22,7 +22,8 @@ pub record Stands (n : ℕ) (t : Timer) : Type 0 where
   pub due : t.due < NEVER
   pub every : ForSome t.every (λ delay. delay < SAFE_END)
 
--- the timer of number n + 1 stands in the first slot, that of the next number in the next, and so on
+-- the timer of number n + 1 stands in the first slot, that of the next number in the next, and so
+-- on
 abbrev pub AreNumbered : ℕ → List (Option Timer) → Type 0
 AreNumbered n [] = Unit {0}
 AreNumbered n (t ∷ ts) = ForSome t (Stands (suc n)) × AreNumbered (suc n) ts
@@ -56,7 +57,9 @@ least_at s = option_map_or (λ s. s.least) s NEVER
 -- each root of a tree at most so high knows the least moment at which a timer of its tree is due
 abbrev pub kept : ℕ → List Slot → Type 0
 kept zero ss = Unit {0}
-kept (suc n) ss = (0 < length ss → least_at (slice_get ss (middle ss)) ≡ least_due (timers_in ss)) × kept n (before ss) × kept n (behind ss)
+kept (suc n) ss =
+    (0 < length ss → least_at (slice_get ss (middle ss)) ≡ least_due (timers_in ss))
+    × kept n (before ss) × kept n (behind ss)
 
 -- each root of the tree does; it is less high than it has slots
 abbrev pub IsKept : List Slot → Type 0
