@@ -1,5 +1,5 @@
 // What is printed for a line.
-use crate::{requests, timers};
+use crate::{dispatch, paths, requests, timers};
 use mug_text::NoMemory;
 use std::alloc::Global;
 
@@ -11,5 +11,11 @@ pub fn answer_of(alloc: Global, line: &str) -> Result<String, NoMemory> {
     if let Some(calls) = line.strip_prefix("requests ") {
         return requests::left(alloc, calls);
     }
-    Ok(String::from_str(alloc, "no timers or requests")?)
+    if let Some(calls) = line.strip_prefix("dispatch ") {
+        return dispatch::left(alloc, calls);
+    }
+    if let Some(written) = line.strip_prefix("path ") {
+        return paths::left(alloc, written);
+    }
+    Ok(String::from_str(alloc, "no timers, requests, dispatch or path")?)
 }

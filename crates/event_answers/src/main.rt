@@ -1,7 +1,9 @@
-//! Prints what timers and requests come to behind the calls that are given on a line.
+//! Prints what timers, requests and listeners come to behind the calls that are given on a line.
 #![tactic(auto)]
 
+mod dispatch;
 mod lines;
+mod paths;
 mod requests;
 mod timers;
 mod words;

@@ -1,0 +1,4 @@
+pub mod Dispatch
+pub mod Listeners
+pub mod Path
+pub mod inner
