@@ -1,5 +1,6 @@
 -- A step of a reading goes one step of what the text ends in.
-use Rattle.std.proofs.Common.{◌≡◌, ◌≢◌, ℕ, zero, suc, ◌+◌, ◌≤◌, ◌<◌, true, false, List, [], ◌∷◌, ◌++◌, length, reverse, Option, Some, None, refl, sym, ◌∙◌, ap, subst, arith}
+use Rattle.std.proofs.Common.{◌≡◌, ◌≢◌, ℕ, zero, suc, ◌+◌, ◌≤◌, ◌<◌, true, false, List, [], ◌∷◌, ◌++◌, length, drop, Option, Some, None, refl, sym, ◌∙◌, ap, subst, arith}
+use Rattle.js_tokens.specs.declared.token.Token.{Token}
 use Rattle.js_tokens.specs.declared.token.Tokens.{Tokens}
 use Rattle.js_tokens.specs.declared.word.Word.{Word}
 use Rattle.js_tokens.specs.declared.word.Word.TheVariants as w
@@ -20,7 +21,9 @@ use Rattle.js_grammar.specs.declared.symbol.Start.TheVariants as start_of
 use Rattle.js_grammar.specs.declared.symbol.Symbol.{Symbol}
 use Rattle.js_grammar.specs.declared.symbol.Symbol.TheVariants.{Word as T, End, Semicolon, FreeSemicolon, Never, Part, Build as Makes, Leave}
 use Rattle.js_grammar.specs.inner.Ranks.{Balanced, front}
-use Rattle.js_grammar.specs.Sights.{sight, may_insert}
+use Rattle.js_grammar.specs.Sights.{may_insert}
+use Rattle.js_productions.specs.declared.seeing.Glance.{Glance}
+use Rattle.js_productions.specs.Glances.{sight_of}
 use Rattle.js_grammar.specs.Parts.{nesting}
 use Rattle.js_grammar.specs.Grammar.{produce}
 use Rattle.js_grammar.specs.Derivations.{built, beginning}
@@ -29,14 +32,14 @@ use Rattle.js_grammar.specs.Ends.{Ends}
 use Rattle.js_grammar.specs.Ends as ends
 use Rattle.js_grammar.proofs.Total.{opened, lighter, built_left, balanced_beginning, end_seen}
 use Rattle.js_answers.specs.Forest.{Holds, HoldsTrees}
-use Rattle.js_answers.specs.Plainly.{text_of, Shows, IsAt, HasTrees, GoesWith, IsBehind, EndsSo, Goes, GoesFrom, Arrives, ArrivesFrom, symbols_of}
+use Rattle.js_answers.specs.Plainly.{text_of, Shows, IsAt, HasTrees, GoesWith, IsBehind, EndsSo, Goes, GoesFrom, ArrivesFrom, seen_by, symbols_of}
 
 -- the reading behind the next token
-abbrev pub beyond : Tokens → Names → Reading → Reading
-beyond tokens names r = record r { place = r.place + 1; sight = sight names tokens (r.place + 1) }
+abbrev pub beyond : Glance → Reading → Reading
+beyond g r = record r { place = r.place + 1; glance = g }
 
 -- a word that is seen is a token of the text
-within : {tokens : Tokens} {names : Names} {r : Reading} → IsAt tokens names r → (v : Word) → r.sight.seen ≡ seen.Word v → r.place < length tokens.items
+within : {tokens : Tokens} {names : Names} {r : Reading} → IsAt tokens names r → (v : Word) → r.glance.seen ≡ seen.Word v → r.place < length tokens.items
 within {tokens = tokens} {names = names} {r = r} a v e = below r.place (length tokens.items) (λ l. cc (sym e ∙ ap (λ u. u.seen) a.seen ∙ end_seen (text_of tokens names start_of.Program) r.place l))
   where
     below : (a b : ℕ) → (b ≤ a → ⊥) → a < b
@@ -47,59 +50,59 @@ within {tokens = tokens} {names = names} {r = r} a v e = below r.place (length t
 
 -- A word -------------------------------------------------------------------------------------------------------------------
 
-pub word_refused : {tokens : Tokens} {names : Names} {r : Reading} → IsAt tokens names r → (v : Word) → r.sight.seen ≢ seen.Word v →
+pub word_refused : {tokens : Tokens} {names : Names} {r : Reading} → IsAt tokens names r → (v : Word) → r.glance.seen ≢ seen.Word v →
     GoesFrom tokens names (T v ∷ symbols_of r) r (step.Ended (end.Unexpected r.place)) r
 word_refused a v n start vs h = ends.refused (λ e. n (ap (λ u. u.seen) a.seen ∙ e))
 
-pub word_deep : {tokens : Tokens} {names : Names} {r : Reading} → IsAt tokens names r → (v : Word) → r.sight.seen ≡ seen.Word v → limit < nesting (symbols_of r) →
+pub word_deep : {tokens : Tokens} {names : Names} {r : Reading} → IsAt tokens names r → (v : Word) → r.glance.seen ≡ seen.Word v → limit < nesting (symbols_of r) →
     GoesFrom tokens names (T v ∷ symbols_of r) r (step.Ended (end.TooDeep r.place)) r
 word_deep a v e l start vs h = ends.deep (sym (ap (λ u. u.seen) a.seen) ∙ e) l
 
-pub word_on : {tokens : Tokens} {names : Names} {r : Reading} → IsAt tokens names r → (v : Word) → r.sight.seen ≡ seen.Word v → nesting (symbols_of r) ≤ limit →
-    (now : Reading) → now ≡ beyond tokens names r → GoesFrom tokens names (T v ∷ symbols_of r) r step.Behind now
+pub word_on : {tokens : Tokens} {names : Names} {r : Reading} → IsAt tokens names r → (v : Word) → r.glance.seen ≡ seen.Word v → nesting (symbols_of r) ≤ limit →
+    (now : Reading) → now ≡ beyond now.glance r → GoesFrom tokens names (T v ∷ symbols_of r) r step.Behind now
 word_on {tokens = tokens} {names = names} {r = r} a v e l now is start vs h =
     subst (λ z. Goes (text_of tokens names start) (T v ∷ symbols_of r) vs r.place step.Behind z) (sym is)
     (record { trees = vs; has = record { holds = h.holds; balanced = h.balanced }; on = λ o d. ends.reads (sym (ap (λ u. u.seen) a.seen) ∙ e) l d }, refl, within a v e)
 
 -- A semicolon --------------------------------------------------------------------------------------------------------------
 
-pub semicolon_on : {tokens : Tokens} {names : Names} {r : Reading} → IsAt tokens names r → r.sight.seen ≡ seen.Word w.Semicolon → nesting (symbols_of r) ≤ limit →
-    (now : Reading) → now ≡ beyond tokens names r → GoesFrom tokens names (Semicolon ∷ symbols_of r) r step.Behind now
+pub semicolon_on : {tokens : Tokens} {names : Names} {r : Reading} → IsAt tokens names r → r.glance.seen ≡ seen.Word w.Semicolon → nesting (symbols_of r) ≤ limit →
+    (now : Reading) → now ≡ beyond now.glance r → GoesFrom tokens names (Semicolon ∷ symbols_of r) r step.Behind now
 semicolon_on {tokens = tokens} {names = names} {r = r} a e l now is start vs h =
     subst (λ z. Goes (text_of tokens names start) (Semicolon ∷ symbols_of r) vs r.place step.Behind z) (sym is)
     (record { trees = vs; has = record { holds = h.holds; balanced = h.balanced }; on = λ o d. ends.semicolon (sym (ap (λ u. u.seen) a.seen) ∙ e) l d }, refl, within a w.Semicolon e)
 
-pub semicolon_deep : {tokens : Tokens} {names : Names} {r : Reading} → IsAt tokens names r → r.sight.seen ≡ seen.Word w.Semicolon → limit < nesting (symbols_of r) →
+pub semicolon_deep : {tokens : Tokens} {names : Names} {r : Reading} → IsAt tokens names r → r.glance.seen ≡ seen.Word w.Semicolon → limit < nesting (symbols_of r) →
     GoesFrom tokens names (Semicolon ∷ symbols_of r) r (step.Ended (end.TooDeep r.place)) r
 semicolon_deep a e l start vs h = ends.deep_semicolon (sym (ap (λ u. u.seen) a.seen) ∙ e) l
 
-pub semicolon_inserted : {tokens : Tokens} {names : Names} {r : Reading} → IsAt tokens names r → r.sight.seen ≢ seen.Word w.Semicolon → may_insert r.sight ≡ true →
+pub semicolon_inserted : {tokens : Tokens} {names : Names} {r : Reading} → IsAt tokens names r → r.glance.seen ≢ seen.Word w.Semicolon → may_insert (sight_of r.glance []) ≡ true →
     GoesFrom tokens names (Semicolon ∷ symbols_of r) r step.On r
 semicolon_inserted a n m start vs h =
     (record { trees = vs; has = record { holds = h.holds; balanced = h.balanced }; on = λ o d. ends.inserted (λ e. n (ap (λ u. u.seen) a.seen ∙ e)) (sym (ap may_insert a.seen) ∙ m) d }, refl, omega arith)
 
-pub semicolon_missing : {tokens : Tokens} {names : Names} {r : Reading} → IsAt tokens names r → r.sight.seen ≢ seen.Word w.Semicolon → may_insert r.sight ≡ false →
+pub semicolon_missing : {tokens : Tokens} {names : Names} {r : Reading} → IsAt tokens names r → r.glance.seen ≢ seen.Word w.Semicolon → may_insert (sight_of r.glance []) ≡ false →
     GoesFrom tokens names (Semicolon ∷ symbols_of r) r (step.Ended (end.Unexpected r.place)) r
 semicolon_missing a n m start vs h = ends.missing (λ e. n (ap (λ u. u.seen) a.seen ∙ e)) (sym (ap may_insert a.seen) ∙ m)
 
-pub free_on : {tokens : Tokens} {names : Names} {r : Reading} → IsAt tokens names r → r.sight.seen ≡ seen.Word w.Semicolon → nesting (symbols_of r) ≤ limit →
-    (now : Reading) → now ≡ beyond tokens names r → GoesFrom tokens names (FreeSemicolon ∷ symbols_of r) r step.Behind now
+pub free_on : {tokens : Tokens} {names : Names} {r : Reading} → IsAt tokens names r → r.glance.seen ≡ seen.Word w.Semicolon → nesting (symbols_of r) ≤ limit →
+    (now : Reading) → now ≡ beyond now.glance r → GoesFrom tokens names (FreeSemicolon ∷ symbols_of r) r step.Behind now
 free_on {tokens = tokens} {names = names} {r = r} a e l now is start vs h =
     subst (λ z. Goes (text_of tokens names start) (FreeSemicolon ∷ symbols_of r) vs r.place step.Behind z) (sym is)
     (record { trees = vs; has = record { holds = h.holds; balanced = h.balanced }; on = λ o d. ends.free_semicolon (sym (ap (λ u. u.seen) a.seen) ∙ e) l d }, refl, within a w.Semicolon e)
 
-pub free_deep : {tokens : Tokens} {names : Names} {r : Reading} → IsAt tokens names r → r.sight.seen ≡ seen.Word w.Semicolon → limit < nesting (symbols_of r) →
+pub free_deep : {tokens : Tokens} {names : Names} {r : Reading} → IsAt tokens names r → r.glance.seen ≡ seen.Word w.Semicolon → limit < nesting (symbols_of r) →
     GoesFrom tokens names (FreeSemicolon ∷ symbols_of r) r (step.Ended (end.TooDeep r.place)) r
 free_deep a e l start vs h = ends.deep_free_semicolon (sym (ap (λ u. u.seen) a.seen) ∙ e) l
 
-pub free_inserted : {tokens : Tokens} {names : Names} {r : Reading} → IsAt tokens names r → r.sight.seen ≢ seen.Word w.Semicolon →
+pub free_inserted : {tokens : Tokens} {names : Names} {r : Reading} → IsAt tokens names r → r.glance.seen ≢ seen.Word w.Semicolon →
     GoesFrom tokens names (FreeSemicolon ∷ symbols_of r) r step.On r
 free_inserted a n start vs h =
     (record { trees = vs; has = record { holds = h.holds; balanced = h.balanced }; on = λ o d. ends.free_inserted (λ e. n (ap (λ u. u.seen) a.seen ∙ e)) d }, refl, omega arith)
 
 -- The end ------------------------------------------------------------------------------------------------------------------
 
-pub end_refused : {tokens : Tokens} {names : Names} {r : Reading} → IsAt tokens names r → r.sight.seen ≢ seen.End →
+pub end_refused : {tokens : Tokens} {names : Names} {r : Reading} → IsAt tokens names r → r.glance.seen ≢ seen.End →
     GoesFrom tokens names (End ∷ symbols_of r) r (step.Ended (end.Unexpected r.place)) r
 end_refused a n start vs h = ends.goes_on (λ e. n (ap (λ u. u.seen) a.seen ∙ e))
 
@@ -107,7 +110,7 @@ end_refused a n start vs h = ends.goes_on (λ e. n (ap (λ u. u.seen) a.seen ∙
 pub only_one : (r : Reading) (s : List Symbol) → GoesWith r (End ∷ s) → (vs : List Tree) × HoldsTrees r.trees vs × (length vs ≡ 1)
 only_one r s (vs, h) = (vs, h.holds, h.balanced.0)
 
-pub end_accepted : {tokens : Tokens} {names : Names} {r : Reading} → IsAt tokens names r → (root : ℕ) (now : Reading) → r.sight.seen ≡ seen.End →
+pub end_accepted : {tokens : Tokens} {names : Names} {r : Reading} → IsAt tokens names r → (root : ℕ) (now : Reading) → r.glance.seen ≡ seen.End →
     ((vs : List Tree) → HoldsTrees r.trees vs → length vs ≡ 1 → (t : Tree) × (vs ≡ t ∷ []) × Holds now.trees.forest.items.items root t) →
     GoesFrom tokens names (End ∷ symbols_of r) r (step.Ended (end.Accepted root)) now
 end_accepted {tokens = tokens} {names = names} {r = r} a root now e has start vs h =
@@ -121,17 +124,17 @@ end_accepted {tokens = tokens} {names = names} {r = r} a root now e has start vs
 -- What stands for more -----------------------------------------------------------------------------------------------------
 
 pub part_on : {tokens : Tokens} {names : Names} {r : Reading} → IsAt tokens names r → (x : Nonterminal) (symbol : Symbol) (now : Reading) → symbol ≡ Part x → now ≡ record r { stack = now.stack } →
-    ((vs : List Tree) → HoldsTrees r.trees vs → symbols_of now ≡ produce x (symbols_of r) r.sight vs ++ symbols_of r) → GoesFrom tokens names (symbol ∷ symbols_of r) r step.On now
+    ((vs : List Tree) → HoldsTrees r.trees vs → symbols_of now ≡ produce x (symbols_of r) (seen_by tokens r) vs ++ symbols_of r) → GoesFrom tokens names (symbol ∷ symbols_of r) r step.On now
 part_on {tokens = tokens} {names = names} {r = r} a x symbol now s is p start vs h =
     let text = text_of tokens names start in
     let said = p vs h.holds in
     let balanced : Balanced (Part x ∷ symbols_of r) (length vs) = subst (λ z. Balanced (z ∷ symbols_of r) (length vs)) s h.balanced in
-    let less : front (produce x (symbols_of r) r.sight vs ++ symbols_of r) < front (Part x ∷ symbols_of r) = lighter x (symbols_of r) r.sight vs in (
+    let less : front (produce x (symbols_of r) (seen_by tokens r) vs ++ symbols_of r) < front (Part x ∷ symbols_of r) = lighter x (symbols_of r) (seen_by tokens r) vs in (
       record {
         trees = vs;
         has = record {
           holds = subst (λ z. HoldsTrees z.trees vs) (sym is) h.holds;
-          balanced = subst (λ z. Balanced z (length vs)) (sym said) (opened x (symbols_of r) r.sight vs (length vs) balanced);
+          balanced = subst (λ z. Balanced z (length vs)) (sym said) (opened x (symbols_of r) (seen_by tokens r) vs (length vs) balanced);
         };
         on = λ o d.
             let here = subst (λ z. Ends text (symbols_of now) vs z.place o) is d in
@@ -143,19 +146,19 @@ part_on {tokens = tokens} {names = names} {r = r} a x symbol now s is p start vs
     )
 
 pub build_on : {tokens : Tokens} {names : Names} {r : Reading} → IsAt tokens names r → (b : Build) (symbol : Symbol) (now : Reading) → symbol ≡ Makes b → now ≡ record r { trees = now.trees } →
-    ((vs : List Tree) → HoldsTrees r.trees vs → HoldsTrees now.trees (built b r.sight vs)) → GoesFrom tokens names (symbol ∷ symbols_of r) r step.On now
+    ((ts : List Token) (vs : List Tree) → HoldsTrees r.trees vs → HoldsTrees now.trees (built b (sight_of r.glance ts) vs)) → GoesFrom tokens names (symbol ∷ symbols_of r) r step.On now
 build_on {tokens = tokens} {names = names} {r = r} a b symbol now s is p start vs h =
     let text = text_of tokens names start in
     let balanced : Balanced (Makes b ∷ symbols_of r) (length vs) = subst (λ z. Balanced (z ∷ symbols_of r) (length vs)) s h.balanced in
     let same : symbols_of r ≡ symbols_of now = sym (ap symbols_of is) in (
       record {
-        trees = built b r.sight vs;
+        trees = built b (seen_by tokens r) vs;
         has = record {
-          holds = p vs h.holds;
-          balanced = subst (λ z. Balanced z (length (built b r.sight vs))) same (subst (Balanced (symbols_of r)) (sym (built_left b r.sight vs balanced.0)) balanced.1);
+          holds = p (drop r.place tokens.items) vs h.holds;
+          balanced = subst (λ z. Balanced z (length (built b (seen_by tokens r) vs))) same (subst (Balanced (symbols_of r)) (sym (built_left b (seen_by tokens r) vs balanced.0)) balanced.1);
         };
         on = λ o d.
-            let here = subst (λ z. Ends text (symbols_of z) (built b r.sight vs) z.place o) is d in
+            let here = subst (λ z. Ends text (symbols_of z) (built b (seen_by tokens r) vs) z.place o) is d in
             let more = subst (λ u. Ends text (symbols_of r) (built b u vs) r.place o) a.seen here in
             subst (λ z. Ends text (z ∷ symbols_of r) vs r.place o) (sym s) (ends.makes more);
       },

@@ -1,4 +1,4 @@
-pub mod Always
 pub mod Keeping
 pub mod Making
 pub mod Going
+pub mod Results

@@ -12,7 +12,8 @@ use Rattle.js_answers.specs.declared.forest.Trees.{Trees}
 use Rattle.js_grammar.specs.declared.sight.Sight.{Sight}
 use Rattle.js_grammar.specs.declared.symbol.Build.TheVariants as build
 use Rattle.js_grammar.specs.Derivations.{grouped, behind, built}
-use Rattle.js_answers.specs.Forest.{Holds, HoldsParts, HoldsPiece, HoldsPieces, HoldsTrees, Keeps, PutsTree, production_of, piece_top, top_of}
+use Rattle.js_answers.specs.Forest.{Holds, HoldsParts, HoldsPiece, HoldsPieces, HoldsTrees, Keeps, PutsTree, production_of, piece_top}
+use Rattle.js_productions.specs.Targets.{target_of}
 use Rattle.js_answers.proofs.Keeping.{keeps_on, holds_still, parts_still, pieces_still, piece_still}
 
 -- The last tree ------------------------------------------------------------------------------------------------------------
@@ -21,7 +22,7 @@ use Rattle.js_answers.proofs.Keeping.{keeps_on, holds_still, parts_still, pieces
 turned : (qs : List Piece) (p : Piece) → reverse (qs ++ p ∷ []) ≡ p ∷ reverse qs
 turned qs p = reverse-append qs (p ∷ [])
 
-no_node : (items : List Item) (is : List ℕ) (vs : List Tree) (t : Tree) → HoldsParts items is t → top_of (t ∷ vs) ≡ None
+no_node : (items : List Item) (is : List ℕ) (vs : List Tree) (t : Tree) → HoldsParts items is t → target_of (t ∷ vs) ≡ None
 no_node items [] vs Nil h = refl
 no_node items [] vs (Made _ _ _ _) h = absurd h
 no_node items [] vs (word_tree _) h = refl
@@ -33,7 +34,7 @@ no_node items (i ∷ is) vs (word_tree _) h = refl
 no_node items (i ∷ is) vs Missing h = refl
 no_node items (i ∷ is) vs (Cons _ _) h = refl
 
-top_made : (items : List Item) (p : Piece) (qs : List Piece) (vs : List Tree) → HoldsPieces items (p ∷ qs) vs → top_of vs ≡ piece_top items p
+top_made : (items : List Item) (p : Piece) (qs : List Piece) (vs : List Tree) → HoldsPieces items (p ∷ qs) vs → target_of vs ≡ piece_top items p
 top_made items p qs [] h = absurd h
 top_made items (piece.List is) qs (v ∷ vs) (e, r) = no_node items is.items vs v e
 top_made items (piece.Tree i) qs (Made q f t ts ∷ vs) ((k, e, g), r) = sym (ap production_of e)
@@ -42,7 +43,7 @@ top_made items (piece.Tree i) qs (Missing ∷ vs) (e, r) = sym (ap production_of
 top_made items (piece.Tree i) qs (Nil ∷ vs) (e, r) = absurd e
 top_made items (piece.Tree i) qs (Cons _ _ ∷ vs) (e, r) = absurd e
 
-pub top_last : (items : List Item) (ps qs : List Piece) (p : Piece) (vs : List Tree) → ps ≡ qs ++ p ∷ [] → HoldsPieces items (reverse ps) vs → top_of vs ≡ piece_top items p
+pub top_last : (items : List Item) (ps qs : List Piece) (p : Piece) (vs : List Tree) → ps ≡ qs ++ p ∷ [] → HoldsPieces items (reverse ps) vs → target_of vs ≡ piece_top items p
 top_last items ps qs p vs e h = top_made items p (reverse qs) vs (subst (λ z. HoldsPieces items z vs) (ap reverse e ∙ turned qs p) h)
 
 -- Lists --------------------------------------------------------------------------------------------------------------------

@@ -3,16 +3,12 @@ use Rattle.std.specs.Prelude.{◌≡◌, ℕ, List, [], ◌∷◌, ◌++◌, Opt
 use Rattle.js_tree.specs.declared.production.Production.{Production}
 use Rattle.js_tree.specs.Trees.{Tree, Made, Missing, Nil, Cons}
 use Rattle.js_tree.specs.Trees.{Word as word_tree}
+use Rattle.js_productions.specs.Targets.{target}
 use Rattle.js_answers.specs.declared.forest.Item.{Item}
 use Rattle.js_answers.specs.declared.forest.Item.TheVariants as item
 use Rattle.js_answers.specs.declared.forest.Piece.{Piece}
 use Rattle.js_answers.specs.declared.forest.Piece.TheVariants as piece
 use Rattle.js_answers.specs.declared.forest.Trees.{Trees}
-
--- the production of the last tree, where it is a node
-abbrev pub top_of : List Tree → Option Production
-top_of (Made q _ _ _ ∷ vs) = Some q
-top_of _ = None
 
 -- at this number the arena holds the tree
 abbrev pub Holds : List Item → ℕ → Tree → Type 0
@@ -50,7 +46,7 @@ pub record Keeps (old new : List Item) : Type 0 where
   pub still : (i : ℕ) (x : Item) → slice_get old i ≡ Some x → slice_get new i ≡ Some x
 
 abbrev pub production_of : Option Item → Option Production
-production_of (Some (item.Node q _ _ _)) = Some q
+production_of (Some (item.Node q _ _ _)) = target q
 production_of _ = None
 
 abbrev pub piece_top : List Item → Piece → Option Production

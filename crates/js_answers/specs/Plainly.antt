@@ -1,5 +1,5 @@
 -- Where a reading stands, and what a step of it comes to.
-use Rattle.std.specs.Prelude.{◌≡◌, ℕ, ◌+◌, ◌<◌, ◌≤◌, List, ◌∷◌, length, reverse, Option, Some, None}
+use Rattle.std.specs.Prelude.{◌≡◌, ℕ, ◌+◌, ◌<◌, ◌≤◌, List, length, drop, Option, Some, None}
 use Rattle.js_tokens.specs.declared.token.Tokens.{Tokens}
 use Rattle.js_tree.specs.Trees.{Tree}
 use Rattle.js_answers.specs.declared.plain.End.{End}
@@ -10,12 +10,14 @@ use Rattle.js_answers.specs.declared.plain.Reading.{Reading}
 use Rattle.js_answers.specs.declared.plain.Step.{Step}
 use Rattle.js_answers.specs.declared.plain.Step.TheVariants as step
 use Rattle.js_grammar.specs.declared.sight.Names.{Names}
+use Rattle.js_grammar.specs.declared.sight.Sight.{Sight}
 use Rattle.js_grammar.specs.declared.symbol.Start.{Start}
 use Rattle.js_grammar.specs.declared.symbol.Symbol.{Symbol}
 use Rattle.js_grammar.specs.inner.Ranks.{Balanced, front}
 use Rattle.js_grammar.specs.Sights.{sight}
 use Rattle.js_grammar.specs.Answers.{Text, Outcome, Accepted, Unexpected, TooDeep}
 use Rattle.js_grammar.specs.Ends.{Ends}
+use Rattle.js_productions.specs.Glances.{sight_of}
 use Rattle.js_answers.specs.Forest.{Holds, HoldsTrees}
 
 abbrev pub text_of : Tokens → Names → Start → Text
@@ -28,10 +30,14 @@ Shows (answer.Unexpected i) (Unexpected j) = i ≡ j
 Shows (answer.TooDeep i) (TooDeep j) = i ≡ j
 Shows _ _ = ⊥
 
--- what is seen is what stands at the place
+-- what is seen at the place, as a glance keeps it
+abbrev pub seen_by : Tokens → Reading → Sight
+seen_by tokens r = sight_of r.glance (drop r.place tokens.items)
+
+-- that is what stands there
 pub record IsAt (tokens : Tokens) (names : Names) (r : Reading) : Type 0 where
   pub within : r.place ≤ length tokens.items
-  pub seen : r.sight ≡ sight names tokens r.place
+  pub seen : seen_by tokens r ≡ sight names tokens r.place
 
 -- these are the trees of a reading, and with them what is to be read leads to one
 pub record HasTrees (r : Reading) (s : List Symbol) (vs : List Tree) : Type 0 where
@@ -44,7 +50,7 @@ GoesWith r s = (vs : List Tree) × HasTrees r s vs
 
 -- the symbols of a reading, the next one first
 abbrev pub symbols_of : Reading → List Symbol
-symbols_of r = reverse r.stack.items
+symbols_of r = r.stack
 
 -- what the text ends in from where a reading is, it ends in from these symbols, trees and place
 pub record IsBehind (text : Text) (s : List Symbol) (vs : List Tree) (i : ℕ) (r : Reading) : Type 0 where

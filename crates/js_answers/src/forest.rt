@@ -1,8 +1,10 @@
 // Trees in an arena, and the trees that a reading has made so far.
-ghost use Rattle.std.specs.Prelude.{◌≡◌, List, length, [], ◌∷◌, ◌++◌, Some, slice_get, IfOk, IfSome, OnOk};
+ghost use Rattle.std.specs.Prelude.{◌≡◌, List, length, [], ◌∷◌, ◌++◌, Some, slice_get, IfOk, OnOk};
 ghost use Rattle.js_tree.specs.Trees.{Tree};
-ghost use Rattle.js_answers.specs.Forest.{Holds, HoldsParts, HoldsPiece, HoldsTrees, Keeps, piece_top, top_of};
+ghost use Rattle.js_productions.specs.Targets.{target_of};
+ghost use Rattle.js_answers.specs.Forest.{Holds, HoldsParts, HoldsPiece, HoldsTrees, Keeps, piece_top};
 
+use js_productions::target;
 use js_tree::Production;
 use mug_text::{JText, NoMemory};
 use std::alloc::Global;
@@ -26,7 +28,8 @@ pub struct Forest {
     pub(crate) items: Vec<Item>,
 }
 
-// A tree that was made: a number in the arena; or a list in the making, by the numbers of its parts.
+// A tree that was made: a number in the arena; or a list in the making, by the numbers of its
+// parts.
 #[derive(Debug, Drop)]
 pub(crate) enum Piece {
     Tree(usize),
@@ -54,7 +57,8 @@ impl Forest {
     // The list of these parts, as trees of the arena.
     pub(crate) fn list(&mut self, parts: &[usize]) -> Result<usize, NoMemory>
         ensures kept { Keeps self.old.items.items self.new.items.items }
-        ensures holds { IfOk result (λ i. (ts : Tree) → HoldsParts self.old.items.items parts.now ts → Holds self.new.items.items i ts) }
+        ensures holds { IfOk result (λ i. (ts : Tree) →
+            HoldsParts self.old.items.items parts.now ts → Holds self.new.items.items i ts) }
     {
         let mut list = self.add(Item::Nil)?;
         let mut rest = parts;
@@ -68,7 +72,8 @@ impl Forest {
     // The number of what was made.
     pub(crate) fn kept(&mut self, piece: Piece) -> Result<usize, NoMemory>
         ensures kept { Keeps self.old.items.items self.new.items.items }
-        ensures holds { IfOk result (λ i. (t : Tree) → HoldsPiece self.old.items.items piece t → Holds self.new.items.items i t) }
+        ensures holds { IfOk result (λ i. (t : Tree) → HoldsPiece self.old.items.items piece t →
+            Holds self.new.items.items i t) }
     {
         match piece {
             Piece::Tree(number) => Ok(number),
@@ -76,7 +81,7 @@ impl Forest {
         }
     }
 
-    // The production of what was made, where it is a node.
+    // The production of what was made, where that may be assigned to.
     fn top(&self, piece: &Piece) -> Option<Production>
         ensures { result ≡ piece_top self.now.items.items piece.now }
     {
@@ -84,7 +89,7 @@ impl Forest {
             return None;
         };
         match self.items.get(*number) {
-            Some(Item::Node(production, _, _, _)) => Some(*production),
+            Some(Item::Node(production, _, _, _)) => target(*production),
             _ => None,
         }
     }
@@ -110,9 +115,9 @@ impl Trees {
         Ok(())
     }
 
-    // The production of the last tree, where it is a node.
+    // The production of the last tree, where that may be assigned to.
     pub(crate) fn last(&self) -> Option<Production>
-        ensures { (vs : List Tree) → HoldsTrees self.now vs → top_of vs ≡ result }
+        ensures { (vs : List Tree) → HoldsTrees self.now vs → target_of vs ≡ result }
     {
         match self.pieces.as_slice().split_last() {
             Some((piece, _)) => self.forest.top(piece),
@@ -123,7 +128,8 @@ impl Trees {
     // The number of the tree, where there is one alone.
     pub(crate) fn only(&mut self) -> Result<usize, NoMemory>
         requires { (vs : List Tree) × HoldsTrees self.old vs × (length vs ≡ 1) }
-        ensures { IfOk result (λ root. (vs : List Tree) → HoldsTrees self.old vs → length vs ≡ 1 → (t : Tree) × (vs ≡ t ∷ []) × Holds self.new.forest.items.items root t) }
+        ensures { IfOk result (λ root. (vs : List Tree) → HoldsTrees self.old vs → length vs ≡ 1 →
+            (t : Tree) × (vs ≡ t ∷ []) × Holds self.new.forest.items.items root t) }
     {
         let Some(piece) = self.pieces.pop() else {
             unreachable!();

@@ -1,5 +1,5 @@
 // The answer of a text, one step after the other, as the definitions give it.
-ghost use Rattle.std.specs.Prelude.{◌≡◌, ◌≢◌, ℕ, ◌+◌, ◌<◌, ◌≤◌, ◌++◌, List, [], ◌∷◌, length, reverse, IfOk, OnOk, IfSome, MatchBool};
+ghost use Rattle.std.specs.Prelude.{◌≡◌, ◌≢◌, ℕ, ◌+◌, ◌<◌, ◌≤◌, ◌++◌, List, [], ◌∷◌, length, drop, IfOk, OnOk, MatchBool};
 ghost use Rattle.js_tree.specs.Trees.{Tree};
 ghost use Rattle.js_grammar.specs.declared.sight.Seen.TheVariants as sees;
 ghost use Rattle.js_grammar.specs.declared.symbol.Start.{Start};
@@ -8,21 +8,15 @@ ghost use Rattle.js_grammar.specs.declared.symbol.Symbol.TheVariants as symbol;
 ghost use Rattle.js_grammar.specs.Answers.{Text, Outcome, Answer};
 ghost use Rattle.js_grammar.specs.Derivations as derivations;
 ghost use Rattle.js_grammar.specs.Ends.{Ends};
-ghost use Rattle.js_answers.specs.Forest.{Holds, HoldsTrees};
+ghost use Rattle.js_answers.specs.Forest.{HoldsTrees};
 ghost use Rattle.js_grammar.specs.Grammar as grammar;
 ghost use Rattle.js_answers.specs.Plainly.{text_of, Shows, IsAt, GoesWith, GoesFrom, ArrivesFrom, EndsSo, symbols_of};
 ghost use Rattle.js_grammar.specs.Parts as parts;
-ghost use Rattle.js_grammar.specs.Sights as sights;
+ghost use Rattle.js_productions.specs.Glances.{sight_of};
 
 use crate::forest::{Forest, Trees};
-use crate::lists::{push_all, symbols};
-use crate::looks::may_insert;
-use crate::productions::produce;
-use crate::scans::nesting;
-use crate::seeing::sight_at;
-use js_grammar::{
-    Build, Names, Nonterminal, Open, Seen, Sight, Start, Symbol, an_end_is_the_answer,
-};
+use js_grammar::{Build, Names, Nonterminal, Open, Seen, Start, Symbol, an_end_is_the_answer};
+use js_productions::{Glance, Stack, glance_at, may_insert, produce};
 use js_tokens::{Tokens, Word};
 use js_tree::Production;
 use mug_text::NoMemory;
@@ -41,13 +35,14 @@ pub enum PlainAnswer {
     TooDeep(usize),
 }
 
-// Where a reading stands: what is still to be read, the trees so far, the number of the next token, and what is seen there.
+// Where a reading stands: what is still to be read, the trees so far, the number of the next token,
+// and what is seen there.
 #[derive(Debug, Drop)]
 pub(crate) struct Reading {
-    pub(crate) stack: Vec<Symbol>,
+    pub(crate) stack: Stack,
     pub(crate) trees: Trees,
     pub(crate) place: usize,
-    pub(crate) sight: Sight,
+    pub(crate) glance: Glance,
 }
 
 // How a text ends: with the tree of a number, or at the token of a number.
@@ -75,7 +70,8 @@ pub fn plain_answer(
     names: Names,
     start: Start,
 ) -> Result<PlainAnswer, NoMemory>
-    ensures { IfOk result (λ a. (o : Outcome) × Shows a o × Answer (text_of tokens.now names start) o) }
+    ensures { IfOk result (λ a. (o : Outcome) × Shows a o ×
+        Answer (text_of tokens.now names start) o) }
 {
     an_end_is_the_answer();
     plain_end(alloc, tokens, names, start)
@@ -88,7 +84,8 @@ fn plain_end(
     names: Names,
     start: Start,
 ) -> Result<PlainAnswer, NoMemory>
-    ensures { IfOk result (λ a. (o : Outcome) × Shows a o × Ends (text_of tokens.now names start) (derivations.beginning start) [] 0 o) }
+    ensures { IfOk result (λ a. (o : Outcome) × Shows a o ×
+        Ends (text_of tokens.now names start) (derivations.beginning start) [] 0 o) }
 {
     let mut reading = Reading::new(alloc, tokens, names, start)?;
     'words: loop {
@@ -99,30 +96,21 @@ fn plain_end(
 }
 
 // What is to be read at first.
-fn beginning(alloc: Global, start: Start) -> Result<Vec<Symbol>, NoMemory>
-    ensures { IfOk result (λ v. v.items ≡ derivations.beginning start) }
+fn beginning(alloc: Global, start: Start) -> Result<Stack, NoMemory>
+    ensures { IfOk result (λ s. s ≡ derivations.beginning start) }
 {
+    let mut stack = Stack::new(alloc);
+    stack.push(Symbol::End)?;
     match start {
-        Start::Program => symbols(
-            alloc,
-            [
-                Symbol::Build(Build::Group(0)),
-                Symbol::Part(Nonterminal::Sources),
-                Symbol::Build(Build::Root(Production::Program)),
-                Symbol::End,
-            ],
-        ),
-        Start::Handler => symbols(
-            alloc,
-            [
-                Symbol::Build(Build::Group(0)),
-                Symbol::Part(Nonterminal::Sources),
-                Symbol::Leave(Open::Function),
-                Symbol::Build(Build::Root(Production::Handler)),
-                Symbol::End,
-            ],
-        ),
+        Start::Program => stack.push(Symbol::Build(Build::Root(Production::Program)))?,
+        Start::Handler => {
+            stack.push(Symbol::Build(Build::Root(Production::Handler)))?;
+            stack.push(Symbol::Leave(Open::Function))?;
+        }
     }
+    stack.push(Symbol::Part(Nonterminal::Sources))?;
+    stack.push(Symbol::Build(Build::Group(0)))?;
+    Ok(stack)
 }
 
 // Whether this word is seen.
@@ -152,28 +140,27 @@ impl Reading {
     fn new(alloc: Global, tokens: &Tokens, names: Names, start: Start) -> Result<Reading, NoMemory>
         ensures at { IfOk result (λ r. IsAt tokens.now names r) }
         ensures trees { IfOk result (λ r. HoldsTrees r.trees []) }
-        ensures stack { IfOk result (λ r. reverse r.stack.items ≡ derivations.beginning start) }
+        ensures stack { IfOk result (λ r. r.stack ≡ derivations.beginning start) }
         ensures place { IfOk result (λ r. r.place ≡ 0) }
     {
-        let mut stack = Vec::new(alloc);
-        push_all(&mut stack, beginning(alloc, start)?)?;
         Ok(Reading {
-            stack,
+            stack: beginning(alloc, start)?,
             trees: Trees::new(alloc),
             place: 0,
-            sight: sight_at(alloc, names, tokens, 0)?,
+            glance: glance_at(names, tokens, 0),
         })
     }
 
     // The answer of a text that ends so.
     fn shown(self, end: End) -> PlainAnswer
-        ensures { (text : Text) (s : List Symbol) (vs : List Tree) (i : ℕ) → EndsSo text s vs i end self → (o : Outcome) × Shows result o × Ends text s vs i o }
+        ensures { (text : Text) (s : List Symbol) (vs : List Tree) (i : ℕ) →
+            EndsSo text s vs i end self → (o : Outcome) × Shows result o × Ends text s vs i o }
     {
         let Reading {
             stack: _,
             trees,
             place: _,
-            sight: _,
+            glance: _,
         } = self;
         match end {
             End::Accepted(root) => PlainAnswer::Accepted {
@@ -206,7 +193,8 @@ impl Reading {
         requires at { IsAt tokens.now names self.old }
         requires goes { GoesWith self.old (symbols_of self.old) }
         ensures at { OnOk result (IsAt tokens.now names self.new) }
-        ensures goes { IfOk result (λ step. GoesFrom tokens.now names (symbols_of self.old) self.old step self.new) }
+        ensures goes { IfOk result (λ step. GoesFrom tokens.now names
+            (symbols_of self.old) self.old step self.new) }
     {
         let Some(symbol) = self.stack.pop() else {
             unreachable!();
@@ -225,20 +213,21 @@ impl Reading {
         requires at { IsAt tokens.now names self.old }
         requires goes { GoesWith self.old (symbol ∷ symbols_of self.old) }
         ensures at { OnOk result (IsAt tokens.now names self.new) }
-        ensures goes { IfOk result (λ step. GoesFrom tokens.now names (symbol ∷ symbols_of self.old) self.old step self.new) }
+        ensures goes { IfOk result (λ step. GoesFrom tokens.now names
+            (symbol ∷ symbols_of self.old) self.old step self.new) }
     {
         match symbol {
-            Symbol::Word(word) => self.word(alloc, tokens, names, word),
+            Symbol::Word(word) => self.word(tokens, names, word),
             Symbol::End => self.end(tokens, names),
-            Symbol::Semicolon => self.semicolon(alloc, tokens, names),
-            Symbol::FreeSemicolon => self.free_semicolon(alloc, tokens, names),
+            Symbol::Semicolon => self.semicolon(tokens, names),
+            Symbol::FreeSemicolon => self.free_semicolon(tokens, names),
             Symbol::Never => Ok(Step::Ended(End::Unexpected(self.place))),
             Symbol::Part(part) => {
-                self.part(alloc, part)?;
+                self.part(alloc, tokens, part)?;
                 Ok(Step::On)
             }
             Symbol::Build(build) => {
-                self.trees.build(alloc, build, &self.sight)?;
+                self.trees.build(alloc, build, self.glance)?;
                 Ok(Step::On)
             }
             Symbol::Leave(_) => Ok(Step::On),
@@ -247,59 +236,57 @@ impl Reading {
 
     // Whether a token may stand here.
     fn may_stand(&self) -> bool
-        ensures { MatchBool result (parts.nesting (reverse self.now.stack.items) ≤ LIMIT) (LIMIT < parts.nesting (reverse self.now.stack.items)) }
+        ensures { MatchBool result (parts.nesting self.now.stack ≤ LIMIT)
+            (LIMIT < parts.nesting self.now.stack) }
     {
-        nesting(&self.stack) <= LIMIT
+        self.stack.nesting() <= LIMIT
     }
 
     // Goes on behind the token.
-    fn advance(&mut self, alloc: Global, tokens: &Tokens, names: Names) -> Result<(), NoMemory>
+    fn advance(&mut self, tokens: &Tokens, names: Names)
         requires { self.old.place < length tokens.now.items }
-        ensures { OnOk result (self.new ≡ record self.old { place = self.old.place + 1; sight = sights.sight names tokens.now (self.old.place + 1) }) }
+        ensures at { IsAt tokens.now names self.new }
+        ensures rest { self.new ≡
+            record self.old { place = self.old.place + 1; glance = self.new.glance } }
     {
         let count = tokens.items.as_slice().len();
         let inside = self.place < count;
         prove!(inside);
-        self.sight = sight_at(alloc, names, tokens, self.place + 1)?;
+        self.glance = glance_at(names, tokens, self.place + 1);
         self.place += 1;
-        Ok(())
     }
 
-    fn word(
-        &mut self,
-        alloc: Global,
-        tokens: &Tokens,
-        names: Names,
-        word: Word,
-    ) -> Result<Step, NoMemory>
+    fn word(&mut self, tokens: &Tokens, names: Names, word: Word) -> Result<Step, NoMemory>
         requires { IsAt tokens.now names self.old }
         ensures at { OnOk result (IsAt tokens.now names self.new) }
-        ensures goes { IfOk result (λ step. GoesFrom tokens.now names (symbol.Word word ∷ symbols_of self.old) self.old step self.new) }
+        ensures goes { IfOk result (λ step. GoesFrom tokens.now names
+            (symbol.Word word ∷ symbols_of self.old) self.old step self.new) }
     {
-        if !is_seen(self.sight.seen, word) {
+        if !is_seen(self.glance.seen, word) {
             return Ok(Step::Ended(End::Unexpected(self.place)));
         }
         if !self.may_stand() {
             return Ok(Step::Ended(End::TooDeep(self.place)));
         }
-        self.advance(alloc, tokens, names)?;
+        self.advance(tokens, names);
         Ok(Step::Behind)
     }
 
     // A semicolon, also one that is inserted.
-    fn semicolon(&mut self, alloc: Global, tokens: &Tokens, names: Names) -> Result<Step, NoMemory>
+    fn semicolon(&mut self, tokens: &Tokens, names: Names) -> Result<Step, NoMemory>
         requires { IsAt tokens.now names self.old }
         ensures at { OnOk result (IsAt tokens.now names self.new) }
-        ensures goes { IfOk result (λ step. GoesFrom tokens.now names (symbol.Semicolon ∷ symbols_of self.old) self.old step self.new) }
+        ensures goes { IfOk result (λ step. GoesFrom tokens.now names
+            (symbol.Semicolon ∷ symbols_of self.old) self.old step self.new) }
     {
-        if is_seen(self.sight.seen, Word::Semicolon) {
+        if is_seen(self.glance.seen, Word::Semicolon) {
             if !self.may_stand() {
                 return Ok(Step::Ended(End::TooDeep(self.place)));
             }
-            self.advance(alloc, tokens, names)?;
+            self.advance(tokens, names);
             return Ok(Step::Behind);
         }
-        if may_insert(&self.sight) {
+        if may_insert(self.glance) {
             Ok(Step::On)
         } else {
             Ok(Step::Ended(End::Unexpected(self.place)))
@@ -307,23 +294,19 @@ impl Reading {
     }
 
     // A semicolon, also one that is inserted without a line terminator.
-    fn free_semicolon(
-        &mut self,
-        alloc: Global,
-        tokens: &Tokens,
-        names: Names,
-    ) -> Result<Step, NoMemory>
+    fn free_semicolon(&mut self, tokens: &Tokens, names: Names) -> Result<Step, NoMemory>
         requires { IsAt tokens.now names self.old }
         ensures at { OnOk result (IsAt tokens.now names self.new) }
-        ensures goes { IfOk result (λ step. GoesFrom tokens.now names (symbol.FreeSemicolon ∷ symbols_of self.old) self.old step self.new) }
+        ensures goes { IfOk result (λ step. GoesFrom tokens.now names
+            (symbol.FreeSemicolon ∷ symbols_of self.old) self.old step self.new) }
     {
-        if !is_seen(self.sight.seen, Word::Semicolon) {
+        if !is_seen(self.glance.seen, Word::Semicolon) {
             return Ok(Step::On);
         }
         if !self.may_stand() {
             return Ok(Step::Ended(End::TooDeep(self.place)));
         }
-        self.advance(alloc, tokens, names)?;
+        self.advance(tokens, names);
         Ok(Step::Behind)
     }
 
@@ -332,9 +315,10 @@ impl Reading {
         requires at { IsAt tokens.now names self.old }
         requires goes { GoesWith self.old (symbol.End ∷ symbols_of self.old) }
         ensures at { OnOk result (IsAt tokens.now names self.new) }
-        ensures goes { IfOk result (λ step. GoesFrom tokens.now names (symbol.End ∷ symbols_of self.old) self.old step self.new) }
+        ensures goes { IfOk result (λ step. GoesFrom tokens.now names
+            (symbol.End ∷ symbols_of self.old) self.old step self.new) }
     {
-        if !is_end(self.sight.seen) {
+        if !is_end(self.glance.seen) {
             return Ok(Step::Ended(End::Unexpected(self.place)));
         }
         let root = self.trees.only()?;
@@ -342,12 +326,16 @@ impl Reading {
     }
 
     // Puts what is to be read in the place of the part on the stack.
-    fn part(&mut self, alloc: Global, part: Nonterminal) -> Result<(), NoMemory>
-        ensures stack { OnOk result ((vs : List Tree) → HoldsTrees self.old.trees vs → reverse self.new.stack.items ≡ grammar.produce part (reverse self.old.stack.items) self.old.sight vs ++ reverse self.old.stack.items) }
+    fn part(&mut self, alloc: Global, tokens: &Tokens, part: Nonterminal) -> Result<(), NoMemory>
+        requires { self.old.place ≤ length tokens.now.items }
+        ensures stack { OnOk result ((vs : List Tree) → HoldsTrees self.old.trees vs →
+            self.new.stack ≡ grammar.produce part self.old.stack
+            (sight_of self.old.glance (drop self.old.place tokens.now.items)) vs
+            ++ self.old.stack) }
         ensures rest { self.new ≡ record self.old { stack = self.new.stack } }
     {
         let last = self.trees.last();
-        let list = produce(alloc, part, &self.stack, &self.sight, last)?;
-        push_all(&mut self.stack, list)
+        let behind = &tokens.items.as_slice()[self.place..];
+        produce(alloc, &mut self.stack, part, self.glance, behind, last)
     }
 }

@@ -14,7 +14,8 @@ enum Task {
 }
 
 impl Forest {
-    /// Appends the tree of a number: a node as its production, its span and its parts, a text in quotes, a part that isn't there as `-`.
+    /// Appends the tree of a number: a node as its production, its span and its parts, a text in
+    /// quotes, a part that isn't there as `-`.
     pub fn show(&self, alloc: Global, root: usize, out: &mut Vec<u8>) -> Result<(), NoMemory> {
         let mut tasks = Vec::new(alloc);
         push(&mut tasks, Task::Tree(root))?;

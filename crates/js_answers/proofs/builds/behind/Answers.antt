@@ -1,5 +1,5 @@
 use Rattle.std.proofs.Common.{◌++◌, ◌∷◌, [], ap, ◌∙◌, sym}
-use Rattle.js_answers.proofs.Always.{weaker}
+use Rattle.js_answers.proofs.Results.{weaker}
 use Rattle.js_answers.proofs.Making.{behind_piece, parts_of}
 use Rattle.js_answers.proofs.builds.behind.Goals as goal
 

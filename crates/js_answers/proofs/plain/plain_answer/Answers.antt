@@ -1,4 +1,4 @@
-use Rattle.js_answers.proofs.Always.{weaker}
+use Rattle.js_answers.proofs.Results.{weaker}
 use Rattle.js_answers.proofs.plain.plain_answer.Goals as goal
 
 pub returns : goal.returns

@@ -1,5 +1,5 @@
 use Rattle.std.proofs.Common.{ap}
-use Rattle.js_answers.proofs.Always.{weaker_fact}
+use Rattle.js_answers.proofs.Results.{weaker_fact}
 use Rattle.js_answers.proofs.Making.{add_made}
 use Rattle.js_answers.specs.declared.forest.Piece.TheVariants as piece
 use Rattle.js_answers.proofs.forest.Trees.add_last.Goals as goal

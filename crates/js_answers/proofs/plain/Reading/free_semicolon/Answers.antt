@@ -8,4 +8,4 @@ pub returns-then-not-may_stand-clause-goes : goal.returns-then-not-may_stand-cla
 returns-then-not-may_stand-clause-goes c = free_deep c.requires c.if-not-is_seen.ensures c.if-not-may_stand.ensures
 
 pub returns-clause-goes : goal.returns-clause-goes
-returns-clause-goes c = free_on c.requires c.if-not-is_seen.ensures c.if-not-may_stand.ensures c.advance.new.self c.in_ok-advance.ensures
+returns-clause-goes c = free_on c.requires c.if-not-is_seen.ensures c.if-not-may_stand.ensures c.advance.new.self c.advance.ensures.rest

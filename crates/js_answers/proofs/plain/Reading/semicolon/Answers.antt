@@ -6,7 +6,7 @@ pub returns-then-not-may_stand-clause-goes : goal.returns-then-not-may_stand-cla
 returns-then-not-may_stand-clause-goes c = semicolon_deep c.requires c.if-is_seen.ensures c.if-not-may_stand.ensures
 
 pub returns-then-is_seen-clause-goes : goal.returns-then-is_seen-clause-goes
-returns-then-is_seen-clause-goes c = semicolon_on c.requires c.if-is_seen.ensures c.if-not-may_stand.ensures c.advance.new.self c.in_ok-advance.ensures
+returns-then-is_seen-clause-goes c = semicolon_on c.requires c.if-is_seen.ensures c.if-not-may_stand.ensures c.advance.new.self c.advance.ensures.rest
 
 pub returns-then-may_insert-clause-goes : goal.returns-then-may_insert-clause-goes
 returns-then-may_insert-clause-goes c = semicolon_inserted c.requires c.if-is_seen.ensures (sym c.may_insert.ensures ∙ c.if-may_insert.true)
