@@ -6,7 +6,7 @@ use Rattle.js_ops.specs.declared.equality.Hint.TheVariants as hint
 use Rattle.js_value.specs.declared.value.Value.{Value}
 use Rattle.js_ops.specs.Convert.{is_missing, to_text}
 use Rattle.js_heap.specs.World.{World}
-use Rattle.js_reference.specs.Errors.ErrorName.{TypeError}
+use Rattle.js_reference.specs.declared.error.ErrorName.TheVariants.{TypeError}
 use Rattle.js_reference.specs.Names.{read_name, write_name}
 use Rattle.js_reference.specs.Properties.{read}
 use Rattle.js_reference.specs.Puts.{write}

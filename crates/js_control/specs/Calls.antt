@@ -8,7 +8,7 @@ use Rattle.js_ops.specs.Convert.{is_missing, to_text}
 use Rattle.js_ops.specs.declared.equality.Hint.{Hint}
 use Rattle.js_heap.specs.World.{World}
 use Rattle.js_reference.specs.Callables.{native_of}
-use Rattle.js_reference.specs.Errors.ErrorName.{TypeError}
+use Rattle.js_reference.specs.declared.error.ErrorName.TheVariants.{TypeError}
 use Rattle.js_reference.specs.Properties.{read}
 use Rattle.js_reference.specs.Puts.{window}
 use Rattle.js_term.specs.Operands.{listed}

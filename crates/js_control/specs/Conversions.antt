@@ -9,7 +9,7 @@ use Rattle.js_ops.specs.declared.equality.Hint.{Hint}
 use Rattle.js_ops.specs.declared.equality.Hint.TheVariants as hint
 use Rattle.js_heap.specs.World.{World}
 use Rattle.js_reference.specs.Callables.{is_callable, is_date}
-use Rattle.js_reference.specs.Errors.ErrorName.{TypeError}
+use Rattle.js_reference.specs.declared.error.ErrorName.TheVariants.{TypeError}
 use Rattle.js_reference.specs.Properties.{property}
 use Rattle.js_term.specs.Place.{Place}
 use Rattle.js_term.specs.Table.{Step}

@@ -10,7 +10,7 @@ use Rattle.js_heap.specs.declared.class.Class.TheVariants as class
 use Rattle.js_heap.specs.declared.class.Code.{Code}
 use Rattle.js_heap.specs.declared.root.Root.TheVariants as root
 use Rattle.js_reference.specs.Errors.{next_object, root_object}
-use Rattle.js_reference.specs.Errors.ErrorName.{RangeError}
+use Rattle.js_reference.specs.declared.error.ErrorName.TheVariants.{RangeError}
 use Rattle.js_reference.specs.Functions.{objects_of_function, with_function}
 use Rattle.js_reference.specs.Room.{objects_fit}
 use Rattle.js_term.specs.declared.context.Context.{Context}

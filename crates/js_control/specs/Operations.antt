@@ -27,7 +27,7 @@ use Rattle.js_heap.specs.declared.root.Root.TheVariants as root
 use Rattle.js_reference.specs.Callables.{class_at, is_callable, is_object}
 use Rattle.js_reference.specs.Errors.{Answer, or_throw, root_object, thrown}
 use Rattle.js_reference.specs.Errors.Answer.{Returns}
-use Rattle.js_reference.specs.Errors.ErrorName.{RangeError, TypeError}
+use Rattle.js_reference.specs.declared.error.ErrorName.TheVariants.{RangeError, TypeError}
 use Rattle.js_reference.specs.Own.{OwnProperties}
 use Rattle.js_reference.specs.Properties.{has_property, property}
 use Rattle.js_tree.specs.declared.production.BinaryOperator.{BinaryOperator}

@@ -15,7 +15,7 @@ use Rattle.js_heap.specs.World.{World}
 use Rattle.js_reference.specs.Callables.{is_callable}
 use Rattle.js_reference.specs.Errors.{Answer, or_throw}
 use Rattle.js_reference.specs.Errors.Answer.{Returns}
-use Rattle.js_reference.specs.Errors.ErrorName.{RangeError}
+use Rattle.js_reference.specs.declared.error.ErrorName.TheVariants.{RangeError}
 use Rattle.js_reference.specs.Names.{name_value}
 use Rattle.js_term.specs.declared.context.Context.{Context}
 use Rattle.js_term.specs.Place.{Place}

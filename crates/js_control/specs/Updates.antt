@@ -11,7 +11,7 @@ use Rattle.js_ops.specs.declared.number.Arith.TheVariants as arith_op
 use Rattle.js_heap.specs.World.{World}
 use Rattle.js_reference.specs.Errors.{Answer, thrown}
 use Rattle.js_reference.specs.Errors.Answer.{Returns, Throws}
-use Rattle.js_reference.specs.Errors.ErrorName.{RangeError, TypeError}
+use Rattle.js_reference.specs.declared.error.ErrorName.TheVariants.{RangeError, TypeError}
 use Rattle.js_reference.specs.Names.{read_name, write_name}
 use Rattle.js_reference.specs.Properties.{read}
 use Rattle.js_reference.specs.Puts.{write}

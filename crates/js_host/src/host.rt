@@ -114,7 +114,8 @@ pub trait Host: Sized {
     /// brings out a native that asks.
     ghost keeps: { RowsKeep names rows };
 
-    /// Only `native` asks, and that changes nothing; its answer brings a value.
+    /// Only `native` asks, and that changes nothing; its answer brings a value. A write to what is
+    /// none of the host's properties changes nothing.
     ghost answers: { RowsAnswer rows };
 
     /// Each definition commutes with the plain image.

@@ -10,7 +10,7 @@ ghost use Rattle.js_value.specs.declared.value.NativeId.{NativeId};
 ghost use Rattle.js_heap.specs.World.{World, classes};
 ghost use Rattle.js_heap.specs.declared.class.Class.{Class};
 ghost use Rattle.js_host.specs.Images.{plain_world};
-ghost use Rattle.js_host.specs.Keeps.{AllPass, Passes};
+ghost use Rattle.js_host.specs.Keeps.{AllPass, Lasting, Passes};
 ghost use Rattle.js_host.specs.Shown.{shown};
 ghost use Rattle.js_host.specs.Names.{call_names, outcome_names};
 ghost use Rattle.js_host.specs.Tests.{PassAfter, calm, there};
@@ -53,4 +53,10 @@ pub fn images_are_shown_and_read()
 /// The test of what is there is what the heap means by it.
 pub fn there_is_among_the_objects()
     ensures { (w : World) (v : Value) → Passes there w v ↔ IsThere w v }
+{}
+
+/// That what a value names is there, and that it asks nothing, are tests that calls keep.
+pub fn tests_last()
+    ensures there { Lasting there }
+    ensures calm { Lasting calm }
 {}

@@ -12,7 +12,7 @@ pub use call::{
 pub use host::Host;
 pub use laws::{
     classes_and_scopes_stay, images_are_shown_and_read, names_are_there,
-    nothing_that_asks_comes_out, there_is_among_the_objects,
+    nothing_that_asks_comes_out, tests_last, there_is_among_the_objects,
 };
 pub use native::{
     Builtin, Construct, NATIVES, Native, PATHS, native_of, natives_are_numbered_apart,

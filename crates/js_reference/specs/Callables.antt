@@ -1,4 +1,5 @@
--- What can be called (ECMA-262 edition 5.1, 9.11), and what is an object. A native function without an object counts as one.
+-- What can be called (ECMA-262 edition 5.1, 9.11), and what is an object. A native function without
+-- an object counts as one.
 use Rattle.std.specs.Prelude.{Bool, true, false, not, Option, Some, None}
 use Rattle.std.specs.Option.{option_map, option_map_or}
 use Rattle.js_value.specs.Image.{image, is_primitive}

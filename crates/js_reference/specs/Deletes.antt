@@ -9,7 +9,7 @@ use Rattle.js_heap.specs.Objects.{is_length, remove}
 use Rattle.js_heap.specs.World.{World, object_at}
 use Rattle.js_reference.specs.Errors.{Answer, thrown}
 use Rattle.js_reference.specs.Errors.Answer.{Returns}
-use Rattle.js_reference.specs.Errors.ErrorName.{TypeError}
+use Rattle.js_reference.specs.declared.error.ErrorName.TheVariants.{TypeError}
 use Rattle.js_reference.specs.Own.{OwnProperties}
 use Rattle.js_reference.specs.Properties.{text_own}
 

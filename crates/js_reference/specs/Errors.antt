@@ -1,5 +1,6 @@
--- What an operation comes to, and the errors that one throws (ECMA-262 edition 5.1, 15.11.6): a new error object of the name, without a message
--- of its own. Where no object fits any more, the error is the text of its name.
+-- What an operation comes to, and the errors that one throws (ECMA-262 edition 5.1, 15.11.6): a new
+-- error object of the name, without a message of its own. Where no object fits any more, the error
+-- is the text of its name.
 use Rattle.std.specs.Prelude.{ℕ, List, Option, Some, None, codes, length, if◌then◌else◌}
 use Rattle.js_value.specs.declared.value.ObjId.{ObjId}
 use Rattle.js_value.specs.declared.value.Value.{Value}
@@ -11,6 +12,10 @@ use Rattle.js_heap.specs.declared.class.Class.TheVariants as class
 use Rattle.js_heap.specs.declared.root.Root.{Root}
 use Rattle.js_heap.specs.declared.root.Root.TheVariants as root
 use Rattle.js_reference.specs.Room.{objects_fit}
+use Rattle.js_reference.specs.declared.error.ErrorName.TheVariants.{RangeError, ReferenceError}
+use Rattle.js_reference.specs.declared.error.ErrorName.TheVariants.{TypeError}
+-- the errors that steps throw (15.11.6)
+pub use Rattle.js_reference.specs.declared.error.ErrorName.{ErrorName}
 
 -- an operation gives a value or throws one, and leaves a world and a host
 pub data Answer (H : Type 0) : Type 0 where
@@ -24,12 +29,6 @@ root_object r = id_of (root_number r)
 -- the object that is made next
 abbrev pub next_object : World → ObjId
 next_object w = id_of (length w.objects)
-
--- the errors that steps throw (15.11.6)
-pub data ErrorName : Type 0 where
-  RangeError : ErrorName
-  ReferenceError : ErrorName
-  TypeError : ErrorName
 
 abbrev pub error_text : ErrorName → List ℕ
 error_text RangeError = codes "RangeError"

@@ -13,11 +13,15 @@ abbrev pub indices_from : ℕ → ℕ → List (List ℕ)
 indices_from i zero = []
 indices_from i (suc n) = decimal i ∷ indices_from (suc i) n
 
--- a text has its indices in front; undefined and null have no names
+-- a text's indices, and then the names of the prototype of texts
+abbrev pub text_keys : World → List ℕ → List (List ℕ)
+text_keys w t = indices_from 0 (length t) ++ keys w (root_object root.StringPrototype)
+
+-- undefined and null have no names
 abbrev pub image_keys : World → Value → List (List ℕ)
 image_keys w (value.Ref o) = keys w o
 image_keys w (value.Native n) = keys w (root_object root.FunctionPrototype)
-image_keys w (value.Text t) = indices_from 0 (length t) ++ keys w (root_object root.StringPrototype)
+image_keys w (value.Text t) = text_keys w t
 image_keys w (value.Num n) = keys w (root_object root.NumberPrototype)
 image_keys w (value.Bool b) = keys w (root_object root.BooleanPrototype)
 image_keys w v = []

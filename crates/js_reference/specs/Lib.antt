@@ -1,7 +1,9 @@
 pub mod Room
 pub mod Errors
+pub mod Answers
 pub mod Functions
 pub mod Own
+pub mod Hosted
 pub mod Callables
 pub mod Properties
 pub mod Puts

@@ -1,4 +1,5 @@
--- Names (ECMA-262 edition 5.1, 10.2.2.1, 8.7.1, 8.7.2): the nearest scope that has the name, or else the window and its prototypes.
+-- Names (ECMA-262 edition 5.1, 10.2.2.1, 8.7.1, 8.7.2): the nearest scope that has the name, or
+-- else the window and its prototypes.
 use Rattle.std.specs.Prelude.{ℕ, List, Option, Some, None}
 use Rattle.js_value.specs.declared.value.ObjId.{ObjId}
 use Rattle.js_value.specs.declared.value.Value.{Value}
@@ -8,7 +9,7 @@ use Rattle.js_heap.specs.World.{World}
 use Rattle.js_heap.specs.declared.class.ScopeId.{ScopeId}
 use Rattle.js_reference.specs.Errors.{Answer, or_throw}
 use Rattle.js_reference.specs.Errors.Answer.{Returns}
-use Rattle.js_reference.specs.Errors.ErrorName.{ReferenceError}
+use Rattle.js_reference.specs.declared.error.ErrorName.TheVariants.{ReferenceError}
 use Rattle.js_reference.specs.Own.{OwnProperties}
 use Rattle.js_reference.specs.Properties.{object_property}
 use Rattle.js_reference.specs.Puts.{window, write_object}

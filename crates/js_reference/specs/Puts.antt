@@ -10,7 +10,7 @@ use Rattle.js_heap.specs.World.{World}
 use Rattle.js_heap.specs.declared.root.Root.TheVariants as root
 use Rattle.js_reference.specs.Errors.{Answer, root_object, thrown}
 use Rattle.js_reference.specs.Errors.Answer.{Returns, Throws}
-use Rattle.js_reference.specs.Errors.ErrorName.{RangeError, TypeError}
+use Rattle.js_reference.specs.declared.error.ErrorName.TheVariants.{RangeError, TypeError}
 use Rattle.js_reference.specs.Own.{HostWrite, OwnProperties}
 use Rattle.js_reference.specs.Own.HostWrite.{NotHost, Took, Refused}
 
@@ -19,11 +19,15 @@ window = root_object root.Window
 
 -- the window's `undefined` and `NaN`, which stay (15.1.1)
 abbrev pub is_fixed : ObjId → List ℕ → Bool
-is_fixed o x = (o.number == window.number) && (text_equal x (codes "undefined") || text_equal x (codes "NaN"))
+is_fixed o x =
+    (o.number == window.number)
+    && (text_equal x (codes "undefined") || text_equal x (codes "NaN"))
 
 -- a property of the heap's; an array's `length` takes whole numbers alone
 abbrev pub put_listed : {H : Type 0} → World → H → ObjId → List ℕ → Value → Answer H
-put_listed w h o x v = if refuses_at w.objects o.number x v then thrown RangeError w h else Returns v (put w o x v true) h
+put_listed w h o x v =
+    if refuses_at w.objects o.number x v then thrown RangeError w h
+    else Returns v (put w o x v true) h
 
 -- what is left to do behind the host's part of a write
 abbrev pub after_host : {H : Type 0} → World → H → ObjId → List ℕ → Value → HostWrite H → Answer H
@@ -34,7 +38,8 @@ after_host w h o x v (Refused e w' h') = Throws e w' h'
 module _ {H : Type 0} (O : OwnProperties H) where
   -- a write to an object's property, which gives the value that is written
   abbrev pub write_object : World → H → ObjId → List ℕ → Value → Answer H
-  write_object w h o x v = if is_fixed o x then Returns v w h else after_host w h o x v (O.put w h o x v)
+  write_object w h o x v =
+      if is_fixed o x then Returns v w h else after_host w h o x v (O.put w h o x v)
 
   abbrev pub write_image : World → H → Value → List ℕ → Value → Answer H
   write_image w h value.Undefined x v = thrown TypeError w h
@@ -42,6 +47,7 @@ module _ {H : Type 0} (O : OwnProperties H) where
   write_image w h (value.Ref o) x v = write_object w h o x v
   write_image w h u x v = Returns v w h
 
-  -- a write to a property of a value: undefined and null have none, and what is no object forgets it
+  -- a write to a property of a value: undefined and null have none, and what is no object forgets
+  -- it
   abbrev pub write : World → H → (base : Value) → List ℕ → Value → Answer H
   write w h u x v = write_image w h (image u) x v

@@ -9,7 +9,7 @@ use Rattle.js_heap.specs.declared.class.Bound.{Bound}
 use Rattle.js_heap.specs.declared.class.Class.{Class}
 use Rattle.js_heap.specs.declared.class.Class.TheVariants as class
 use Rattle.js_reference.specs.Callables.{class_at}
-use Rattle.js_reference.specs.Errors.ErrorName.{TypeError}
+use Rattle.js_reference.specs.declared.error.ErrorName.TheVariants.{TypeError}
 use Rattle.js_term.specs.Place.{Place, Placed}
 use Rattle.js_term.specs.Table.{Step}
 use Rattle.js_term.specs.Table.Step.{Gives}

@@ -17,7 +17,7 @@ use Rattle.js_heap.specs.declared.class.ScopeId.{ScopeId}
 use Rattle.js_heap.specs.declared.root.Root.TheVariants as root
 use Rattle.js_reference.specs.Callables.{as_object, native_of}
 use Rattle.js_reference.specs.Errors.{next_object, root_object}
-use Rattle.js_reference.specs.Errors.ErrorName.{RangeError}
+use Rattle.js_reference.specs.declared.error.ErrorName.TheVariants.{RangeError}
 use Rattle.js_reference.specs.Functions.{objects_of_function, with_function}
 use Rattle.js_reference.specs.Properties.{property}
 use Rattle.js_reference.specs.Puts.{window}

@@ -8,7 +8,7 @@ use Rattle.js_heap.specs.Puts.{put}
 use Rattle.js_heap.specs.World.{World}
 use Rattle.js_reference.specs.Errors.{Answer, next_object, thrown}
 use Rattle.js_reference.specs.Errors.Answer.{Returns, Throws}
-use Rattle.js_reference.specs.Errors.ErrorName.{RangeError}
+use Rattle.js_reference.specs.declared.error.ErrorName.TheVariants.{RangeError}
 use Rattle.js_reference.specs.Functions.{objects_of_function, with_function}
 use Rattle.js_reference.specs.Properties.{object_property}
 use Rattle.js_reference.specs.Puts.{window, write_object}

@@ -3,7 +3,8 @@ use Rattle.std.specs.Prelude.{ℕ, Bool, true, List, Option, Some, None}
 use Rattle.js_value.specs.declared.value.Value.{Value}
 use Rattle.js_value.specs.declared.value.Value.TheVariants as value
 use Rattle.js_heap.specs.World.{World}
-use Rattle.js_reference.specs.Errors.{Answer, ErrorName, thrown}
+use Rattle.js_reference.specs.Errors.{Answer, thrown}
+use Rattle.js_reference.specs.declared.error.ErrorName.{ErrorName}
 use Rattle.js_reference.specs.Errors.Answer.{Returns, Throws}
 use Rattle.js_term.specs.declared.completion.Completion.{Completion}
 use Rattle.js_term.specs.declared.completion.Completion.TheVariants.{Throw}

@@ -6,7 +6,7 @@ use Rattle.js_value.specs.declared.value.Value.{Value}
 use Rattle.js_heap.specs.Scopes.{declare, with_scope}
 use Rattle.js_heap.specs.World.{World}
 use Rattle.js_heap.specs.declared.class.ScopeId.{ScopeId}
-use Rattle.js_reference.specs.Errors.ErrorName.{RangeError}
+use Rattle.js_reference.specs.declared.error.ErrorName.TheVariants.{RangeError}
 use Rattle.js_reference.specs.Room.{scopes_fit}
 use Rattle.js_term.specs.declared.completion.Completion.{Completion}
 use Rattle.js_term.specs.declared.completion.Completion.TheVariants.{Throw}

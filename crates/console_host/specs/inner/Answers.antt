@@ -18,5 +18,6 @@ console_answers = record {
   give = λ w h id c i a. refl;
   resume = λ w h r v. refl;
   put_own = λ w h o x v. refl;
+  unheld = λ w h o x v. (refl, refl);
   uncaught = λ w h v. refl;
 }

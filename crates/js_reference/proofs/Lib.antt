@@ -1,0 +1,4 @@
+pub mod Chains
+pub mod Listed
+pub mod Naming
+pub mod There
