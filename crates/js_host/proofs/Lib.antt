@@ -3,5 +3,5 @@ pub mod Lists
 pub mod Moves
 pub mod Numbers
 pub mod Plain
-pub mod Shown
+pub mod ShownImages
 pub mod There

@@ -42,13 +42,16 @@ PutsNothing w h host_put.NotHost w' h' = (w' ≡ w) × (h' ≡ h)
 PutsNothing w h p w' h' = Unit {0}
 
 module _ {H D : Type 0} where
-  -- Only `native` asks. Where it does, the answer brings a value. Each host takes the throw that nothing caught.
+  -- Only `native` asks. Where it does, the answer brings a value. Each host takes the throw that
+  -- nothing caught.
   pub record RowsAnswer (R : HostRows H D) : Type 0 where
     pub native : (w : World) (h : H) (id : NativeId) (c : NativeCall)
         → AsksOnly id w h (R.native w h id c).0 (R.native w h id c).1 (R.native w h id c).2
-    pub give : (w : World) (h : H) (id : NativeId) (c : NativeCall) (i : Input) → IsAsked R w h id c i → is_value (R.give w h id c i).0 ≡ true
+    pub give : (w : World) (h : H) (id : NativeId) (c : NativeCall) (i : Input)
+        → IsAsked R w h id c i → is_value (R.give w h id c i).0 ≡ true
     pub resume : (w : World) (h : H) (r : Resume) (v : Value) → goes_on (R.resume w h r v).0 ≡ true
-    pub put_own : (w : World) (h : H) (o : ObjId) (x : List ℕ) (v : Value) → is_put (R.put_own w h o x v).0 ≡ true
+    pub put_own : (w : World) (h : H) (o : ObjId) (x : List ℕ) (v : Value)
+        → is_put (R.put_own w h o x v).0 ≡ true
     pub unheld : (w : World) (h : H) (o : ObjId) (x : List ℕ) (v : Value)
         → PutsNothing w h (R.put_own w h o x v).0 (R.put_own w h o x v).1 (R.put_own w h o x v).2
     pub uncaught : (w : World) (h : H) (v : Value) → R.takes w h (Uncaught v) ≡ true

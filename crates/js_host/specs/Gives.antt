@@ -18,7 +18,8 @@ module _ {H : Type 0} where
   PutGives row host_put.NoMemory w h = Unit {0}
   PutGives row p w h = row ≡ (p, w, h)
 
-  abbrev pub FreshGives : Option DispatchAt × World × H → Result DispatchAt HeapFault → World → H → Type 0
+  abbrev pub FreshGives : Option DispatchAt × World × H → Result DispatchAt HeapFault → World → H
+      → Type 0
   FreshGives row (Ok d) w h = row ≡ (Some d, w, h)
   FreshGives row (Err heap_fault.Full) w h = row ≡ (None, w, h)
   FreshGives row (Err heap_fault.NoMemory) w h = Unit {0}

@@ -1,4 +1,5 @@
--- Plain images: what a heap, a call, an answer and a host are without wraps. Each wrap is replaced by its callee.
+-- Plain images: what a heap, a call, an answer and a host are without wraps. Each wrap is replaced
+-- by its callee.
 use Rattle.std.specs.Prelude.{◌≡◌, ℕ, List, map, Bool, true, Option}
 use Rattle.std.specs.Option.{option_map}
 use Rattle.js_value.specs.Image.{image}
@@ -28,14 +29,19 @@ use Rattle.js_host.specs.declared.call.Outcome.TheVariants as outcome
 use Rattle.js_host.specs.declared.call.Resume.{Resume}
 
 abbrev pub plain_class : Class → Class
-plain_class (class.Bound b) = class.Bound (record { f = image b.f; this = image b.this; args = map image b.args })
+plain_class (class.Bound b) =
+    class.Bound (record { f = image b.f; this = image b.this; args = map image b.args })
 plain_class c = c
 
 abbrev pub plain_property : Property → Property
 plain_property p = record { name = p.name; value = image p.value; listed = p.listed }
 
 abbrev pub plain_object : Object → Object
-plain_object o = record { class = plain_class o.class; prototype = o.prototype; properties = map plain_property o.properties }
+plain_object o = record {
+  class = plain_class o.class;
+  prototype = o.prototype;
+  properties = map plain_property o.properties;
+}
 
 abbrev pub plain_binding : Binding → Binding
 plain_binding b = record { name = b.name; value = image b.value }
@@ -93,20 +99,32 @@ module _ {H D : Type 0} (I : HostImages H D) where
   -- each definition commutes with the image: its value for the images is the image of its value
   pub record RowsCommute (R : HostRows H D) : Type 0 where
     pub native : (w : World) (h : H) (id : NativeId) (c : NativeCall)
-        → R.native (plain_world w) (I.host h) id (plain_call c) ≡ plain_after plain_outcome (R.native w h id c)
-    pub give : (w : World) (h : H) (id : NativeId) (c : NativeCall) (i : Input) → IsAsked R w h id c i
-        → R.give (plain_world w) (I.host h) id (plain_call c) i ≡ plain_after plain_outcome (R.give w h id c i)
+        → R.native (plain_world w) (I.host h) id (plain_call c)
+        ≡ plain_after plain_outcome (R.native w h id c)
+    pub give : (w : World) (h : H) (id : NativeId) (c : NativeCall) (i : Input)
+        → IsAsked R w h id c i
+        → R.give (plain_world w) (I.host h) id (plain_call c) i
+        ≡ plain_after plain_outcome (R.give w h id c i)
     pub resume : (w : World) (h : H) (r : Resume) (v : Value)
-        → R.resume (plain_world w) (I.host h) (plain_resume r) (image v) ≡ plain_after plain_outcome (R.resume w h r v)
-    pub get_own : (w : World) (h : H) (o : ObjId) (x : List ℕ) → R.get_own (plain_world w) (I.host h) o x ≡ option_map image (R.get_own w h o x)
+        → R.resume (plain_world w) (I.host h) (plain_resume r) (image v)
+        ≡ plain_after plain_outcome (R.resume w h r v)
+    pub get_own : (w : World) (h : H) (o : ObjId) (x : List ℕ)
+        → R.get_own (plain_world w) (I.host h) o x ≡ option_map image (R.get_own w h o x)
     pub put_own : (w : World) (h : H) (o : ObjId) (x : List ℕ) (v : Value)
-        → R.put_own (plain_world w) (I.host h) o x (image v) ≡ plain_after plain_put (R.put_own w h o x v)
-    pub start : (w : World) (h : H) (d : DispatchAt) → R.start (plain_world w) (I.host h) d ≡ plain_after I.dispatch (R.start w h d)
+        → R.put_own (plain_world w) (I.host h) o x (image v)
+        ≡ plain_after plain_put (R.put_own w h o x v)
+    pub start : (w : World) (h : H) (d : DispatchAt)
+        → R.start (plain_world w) (I.host h) d ≡ plain_after I.dispatch (R.start w h d)
     pub next : (w : World) (h : H) (d : D) (o : Option Value)
-        → R.next (plain_world w) (I.host h) (I.dispatch d) (option_map image o) ≡ plain_dispatch (R.next w h d o)
+        → R.next (plain_world w) (I.host h) (I.dispatch d) (option_map image o)
+        ≡ plain_dispatch (R.next w h d o)
     pub fresh : (w : World) (h : H) (o : ObjId) (x : List ℕ) (bubbles cancelable : Bool)
-        → R.fresh (plain_world w) (I.host h) o x bubbles cancelable ≡ plain_after (λ d. d) (R.fresh w h o x bubbles cancelable)
-    pub is_handler : (w : World) (h : H) (o : ObjId) (x : List ℕ) → R.is_handler (plain_world w) (I.host h) o x ≡ R.is_handler w h o x
-    pub takes : (w : World) (h : H) (o : Order) → R.takes (plain_world w) (I.host h) (plain_order o) ≡ R.takes w h o
+        → R.fresh (plain_world w) (I.host h) o x bubbles cancelable
+        ≡ plain_after (λ d. d) (R.fresh w h o x bubbles cancelable)
+    pub is_handler : (w : World) (h : H) (o : ObjId) (x : List ℕ)
+        → R.is_handler (plain_world w) (I.host h) o x ≡ R.is_handler w h o x
+    pub takes : (w : World) (h : H) (o : Order)
+        → R.takes (plain_world w) (I.host h) (plain_order o) ≡ R.takes w h o
     pub order : (w : World) (h : H) (o : Order) → R.takes w h o ≡ true
-        → R.order (plain_world w) (I.host h) (plain_order o) ≡ plain_after (option_map image) (R.order w h o)
+        → R.order (plain_world w) (I.host h) (plain_order o)
+        ≡ plain_after (option_map image) (R.order w h o)

@@ -1,6 +1,7 @@
--- What no call of a host does: it changes no scope and no object's class, makes no function, names nothing that isn't there, and brings out no native
--- that asks.
-use Rattle.std.specs.Prelude.{◌≡◌, ℕ, List, [], ◌∷◌, ◌++◌, Bool, true, false, not, Option, Some, None, slice_get}
+-- What no call of a host does: it changes no scope and no object's class, makes no function, names
+-- nothing that isn't there, and brings out no native that asks.
+use Rattle.std.specs.Prelude.{◌≡◌, ℕ, List, [], ◌∷◌, ◌++◌, Bool, true, false, not, Option, Some}
+use Rattle.std.specs.Prelude.{None, slice_get}
 use Rattle.js_value.specs.declared.value.Callee.{Callee}
 use Rattle.js_value.specs.declared.value.HidId.{HidId}
 use Rattle.js_value.specs.declared.value.NativeId.{NativeId}
@@ -16,7 +17,8 @@ use Rattle.js_heap.specs.declared.scope.Scope.{Scope}
 use Rattle.js_heap.specs.declared.class.Class.{Class}
 use Rattle.js_heap.specs.declared.class.Class.TheVariants as class
 use Rattle.js_heap.specs.declared.root.Root.{Root}
-use Rattle.js_host.specs.Names.{call_names, dispatch_names, fresh_names, next_names, option_names, order_names, outcome_names, put_names, resume_names}
+use Rattle.js_host.specs.Names.{call_names, dispatch_names, fresh_names, next_names, option_names}
+use Rattle.js_host.specs.Names.{order_names, outcome_names, put_names, resume_names}
 use Rattle.js_host.specs.Natives.{asks}
 use Rattle.js_host.specs.Rows.{HostRows, IsAsked}
 use Rattle.js_heap.specs.Closed.{Each}
@@ -79,16 +81,21 @@ is_made c = true
 abbrev pub IsMade : Class → Type 0
 IsMade c = is_made c ≡ true
 
--- The tests that calls keep. Primitive values pass, natives that don't ask, objects of a class that a call may make, and wraps of what passes; and what
--- passes still does when more objects are made.
+-- The tests that calls keep. Primitive values pass, natives that don't ask, objects of a class that
+-- a call may make, and wraps of what passes; and what passes still does when more objects are made.
 pub record Lasting (ok : Test) : Type 0 where
   pub primitive : (cs : List Class) (v : Value) → is_primitive v ≡ true → ok cs v ≡ true
-  pub native : (cs : List Class) (n : NativeId) → asks n.number ≡ false → ok cs (value.Native n) ≡ true
-  pub made : (cs : List Class) (o : ObjId) (c : Class) → slice_get cs o.number ≡ Some c → IsMade c → ok cs (value.Ref o) ≡ true
-  pub wrap : (cs : List Class) (f : HidId) (c : Callee) → ok cs (value_of c) ≡ true → ok cs (value.Wrap f c) ≡ true
-  pub more : (cs ds : List Class) (v : Value) → Each IsMade ds → ok cs v ≡ true → ok (cs ++ ds) v ≡ true
+  pub native : (cs : List Class) (n : NativeId) → asks n.number ≡ false
+      → ok cs (value.Native n) ≡ true
+  pub made : (cs : List Class) (o : ObjId) (c : Class) → slice_get cs o.number ≡ Some c → IsMade c
+      → ok cs (value.Ref o) ≡ true
+  pub wrap : (cs : List Class) (f : HidId) (c : Callee) → ok cs (value_of c) ≡ true
+      → ok cs (value.Wrap f c) ≡ true
+  pub more : (cs ds : List Class) (v : Value) → Each IsMade ds → ok cs v ≡ true
+      → ok (cs ++ ds) v ≡ true
 
--- a world after another: numbers of objects only rise, no scope and no object's class changes, and no function is made
+-- a world after another: numbers of objects only rise, no scope and no object's class changes, and
+-- no function is made
 pub record Grows (w w' : World) : Type 0 where
   pub added : List Class
   pub made : Each IsMade added
@@ -127,15 +134,22 @@ module _ {H D : Type 0} (N : HostNames H D) where
   module _ (R : HostRows H D) where
     -- what each call keeps, given what it names and what the host holds
     pub record RowsKeep : Type 0 where
-      pub native : (w : World) (h : H) (id : NativeId) (c : NativeCall) → KeepsOutcome w (call_names c (N.host h)) (R.native w h id c)
-      pub give : (w : World) (h : H) (id : NativeId) (c : NativeCall) (i : Input) → IsAsked R w h id c i
+      pub native : (w : World) (h : H) (id : NativeId) (c : NativeCall)
+          → KeepsOutcome w (call_names c (N.host h)) (R.native w h id c)
+      pub give : (w : World) (h : H) (id : NativeId) (c : NativeCall) (i : Input)
+          → IsAsked R w h id c i
           → KeepsOutcome w (call_names c (N.host h)) (R.give w h id c i)
-      pub resume : (w : World) (h : H) (r : Resume) (v : Value) → KeepsOutcome w (v ∷ resume_names r (N.host h)) (R.resume w h r v)
-      pub get_own : (w : World) (h : H) (o : ObjId) (x : List ℕ) → Keeps w (value.Ref o ∷ N.host h) w (option_names (R.get_own w h o x) (N.host h))
+      pub resume : (w : World) (h : H) (r : Resume) (v : Value)
+          → KeepsOutcome w (v ∷ resume_names r (N.host h)) (R.resume w h r v)
+      pub get_own : (w : World) (h : H) (o : ObjId) (x : List ℕ)
+          → Keeps w (value.Ref o ∷ N.host h) w (option_names (R.get_own w h o x) (N.host h))
       pub put_own : (w : World) (h : H) (o : ObjId) (x : List ℕ) (v : Value)
           → KeepsPut w (value.Ref o ∷ v ∷ N.host h) (R.put_own w h o x v)
-      pub start : (w : World) (h : H) (d : DispatchAt) → KeepsStart w (dispatch_names d (N.host h)) (R.start w h d)
-      pub next : (w : World) (h : H) (d : D) (o : Option Value) → KeepsNext w (option_names o (N.dispatch d ++ N.host h)) (R.next w h d o)
+      pub start : (w : World) (h : H) (d : DispatchAt)
+          → KeepsStart w (dispatch_names d (N.host h)) (R.start w h d)
+      pub next : (w : World) (h : H) (d : D) (o : Option Value)
+          → KeepsNext w (option_names o (N.dispatch d ++ N.host h)) (R.next w h d o)
       pub fresh : (w : World) (h : H) (o : ObjId) (x : List ℕ) (bubbles cancelable : Bool)
           → KeepsFresh w (value.Ref o ∷ N.host h) (R.fresh w h o x bubbles cancelable)
-      pub order : (w : World) (h : H) (o : Order) → R.takes w h o ≡ true → KeepsValue w (order_names o (N.host h)) (R.order w h o)
+      pub order : (w : World) (h : H) (o : Order) → R.takes w h o ≡ true
+          → KeepsValue w (order_names o (N.host h)) (R.order w h o)

@@ -1,4 +1,5 @@
--- The values that calls and answers name, in front of others. An object is named by a reference to it.
+-- The values that calls and answers name, in front of others. An object is named by a reference to
+-- it.
 use Rattle.std.specs.Prelude.{ℕ, List, [], ◌∷◌, ◌++◌, Option, Some, None}
 use Rattle.js_value.specs.declared.value.ObjId.{ObjId}
 use Rattle.js_value.specs.declared.value.Value.{Value}

@@ -1,5 +1,6 @@
 -- Native functions by number: the table's rows, and what they say.
-use Rattle.std.specs.Prelude.{ℕ, List, [], ◌∷◌, Bool, true, false, not, Option, Some, None, filter, is_some, map, slice_get, unwrap_or}
+use Rattle.std.specs.Prelude.{ℕ, List, [], ◌∷◌, Bool, true, false, not, Option, Some, None, filter}
+use Rattle.std.specs.Prelude.{is_some, map, slice_get, unwrap_or}
 use Rattle.std.specs.Option.{option_map, option_and_then}
 use Rattle.js_ops.specs.declared.equality.Hint.{Hint}
 use Rattle.js_value.specs.declared.value.NativeId.{NativeId}
@@ -35,9 +36,11 @@ refuses construct.Never by_new = by_new
 refuses construct.Either by_new = false
 refuses construct.Only by_new = not by_new
 
--- with which hint an object is converted that stands as `this`, at position 0, or as an argument, from position 1 on
+-- with which hint an object is converted that stands as `this`, at position 0, or as an argument,
+-- from position 1 on
 abbrev pub hint_at : Native → (position : ℕ) → Option Hint
-hint_at row n = unwrap_or (slice_get (row.this ∷ row.first ∷ row.second ∷ row.third ∷ []) n) row.others
+hint_at row n =
+    unwrap_or (slice_get (row.this ∷ row.first ∷ row.second ∷ row.third ∷ []) n) row.others
 
 abbrev pub hint_if : Native → (refused : Bool) → (position : ℕ) → Option Hint
 hint_if row true n = None

@@ -1,5 +1,6 @@
--- How values are shown on console lines, in the line of a throw that nothing caught, and in the texts of errors.
-use Rattle.std.specs.Prelude.{ℕ, List, [], ◌∷◌, ◌++◌, Bool, true, false, Option, Some, None, codes, if◌then◌else◌, unwrap_or}
+-- How values are shown: on console lines, in the line of a throw that nothing caught, and in the
+-- texts of errors.
+use Rattle.std.specs.Prelude.{ℕ, List, [], ◌∷◌, ◌++◌, Option, Some, None, codes, unwrap_or}
 use Rattle.std.specs.Option.{option_and_then, option_map}
 use Rattle.js_value.specs.Image.{image}
 use Rattle.js_value.specs.declared.value.ObjId.{ObjId}
@@ -11,18 +12,23 @@ use Rattle.js_heap.specs.World.{World, object_at}
 use Rattle.js_heap.specs.declared.class.Class.{Class}
 use Rattle.js_heap.specs.declared.class.Class.TheVariants as class
 
+-- an error's name, or `Error` where that is no text
+abbrev pub name_shown : Option Value → List ℕ
+name_shown name = unwrap_or (option_and_then as_text name) (codes "Error")
+
 -- behind an error's name: `: ` and its message, where that is a text that isn't empty
 abbrev pub message_shown : Option (List ℕ) → List ℕ
 message_shown (Some (u ∷ us)) = codes ": " ++ (u ∷ us)
 message_shown m = []
 
--- an error, by its `name`, or `Error` where that is no text, and its `message` (ECMA-262 edition 5.1, 15.11.4.4)
+-- an error, by its `name` and its `message` (ECMA-262 edition 5.1, 15.11.4.4)
 abbrev pub error_shown : Option Value → Option Value → List ℕ
-error_shown name message = unwrap_or (option_and_then as_text name) (codes "Error") ++ message_shown (option_and_then as_text message)
+error_shown name message = name_shown name ++ message_shown (option_and_then as_text message)
 
 abbrev pub class_shown : World → ObjId → Option Class → List ℕ
 class_shown w o (Some class.Array) = codes "[array]"
-class_shown w o (Some class.Error) = error_shown (get w o (codes "name")) (get w o (codes "message"))
+class_shown w o (Some class.Error) =
+    error_shown (get w o (codes "name")) (get w o (codes "message"))
 class_shown w o (Some (class.Function c)) = codes "[function]"
 class_shown w o (Some (class.Bound b)) = codes "[function]"
 class_shown w o (Some (class.Builtin (Some n))) = codes "[function]"

@@ -5,6 +5,7 @@ mod call;
 mod host;
 mod laws;
 mod native;
+mod shown_values;
 
 pub use call::{
     Callback, DispatchAt, HostPut, Input, Kind, NativeCall, NextCall, Order, Outcome, Resume,
@@ -18,3 +19,4 @@ pub use native::{
     Builtin, Construct, NATIVES, Native, PATHS, native_of, natives_are_numbered_apart,
     natives_that_ask_and_construct,
 };
+pub use shown_values::{shown, uncaught_shown};

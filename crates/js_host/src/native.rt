@@ -1,6 +1,7 @@
 // Native functions by number.
 ghost use Rattle.std.specs.Prelude.{◌≡◌, ℕ, ◌∷◌, [], Some, is_some, length};
-ghost use Rattle.js_host.specs.Natives.{is_either, is_only, named_at, native_at, names_where, natives};
+ghost use Rattle.js_host.specs.Natives.{is_either, is_only, named_at, native_at, names_where};
+ghost use Rattle.js_host.specs.Natives.{natives};
 ghost use Rattle.js_host.specs.Natives as table;
 ghost use Rattle.js_host.specs.Numbers.{number_of};
 
@@ -9,8 +10,8 @@ use js_ops::Hint;
 use js_value::NativeId;
 
 /// The native functions, by number. One without a holder in its name stands at the window, those of
-/// a prototype have the prototype's name, and the listener calls are the same at nodes, at the window
-/// and at requests.
+/// a prototype have the prototype's name, and the listener calls are the same at nodes, at the
+/// window and at requests.
 #[derive(Clone, Copy, Debug, PartialEq, Eq)]
 pub enum Builtin {
     ParseInt,
@@ -129,8 +130,9 @@ impl Construct {
     }
 }
 
-/// A native function. Before a call an object that stands as `this` or as an argument is converted to
-/// a primitive value, where there is a hint for it; what is no object the native converts itself.
+/// A native function. Before a call an object that stands as `this` or as an argument is converted
+/// to a primitive value, where there is a hint for it; what is no object the native converts
+/// itself.
 #[derive(Clone, Copy, Debug, PartialEq, Eq)]
 pub struct Native {
     pub name: Builtin,
@@ -146,7 +148,8 @@ pub struct Native {
 }
 
 impl Native {
-    /// With which hint an object is converted that stands as `this`, at position 0, or as an argument.
+    /// With which hint an object is converted that stands as `this`, at position 0, or as an
+    /// argument.
     pub fn hint(self, position: usize) -> Option<Hint>
         ensures { result ≡ table.hint_at self position }
     {
@@ -179,14 +182,14 @@ macro_rules! question {
 
 // The rows of a table of natives.
 macro_rules! natives {
-    ($($name:ident $path:literal $this:tt ($a:tt $b:tt $c:tt) $others:tt $new:ident $asks:tt;)*) => {
+    ($($name:ident $path:literal $this:tt ($a:tt $b:tt $c:tt) $more:tt $new:ident $asks:tt;)*) => {
         [$(Native {
             name: Builtin::$name,
             this: hint!($this),
             first: hint!($a),
             second: hint!($b),
             third: hint!($c),
-            others: hint!($others),
+            others: hint!($more),
             construct: Construct::$new,
             asks: question!($asks),
         }),*]
@@ -195,14 +198,14 @@ macro_rules! natives {
 
 // The paths of a table of natives.
 macro_rules! paths {
-    ($($name:ident $path:literal $this:tt ($a:tt $b:tt $c:tt) $others:tt $new:ident $asks:tt;)*) => {
+    ($($name:ident $path:literal $this:tt ($a:tt $b:tt $c:tt) $more:tt $new:ident $asks:tt;)*) => {
         [$($path),*]
     };
 }
 
-// The table, by number (ECMA-262 edition 5.1, clause 15, and the DOM and HTML Standards): a line for
-// each native, with its name, its path, what is done to `this`, to the first three arguments and to
-// the others, whether it is called with `new`, and what it may ask.
+// The table, by number (ECMA-262 edition 5.1, clause 15, and the DOM and HTML Standards): a line
+// for each native, with its name, its path, what is done to `this`, to the first three arguments
+// and to the others, whether it is called with `new`, and what it may ask.
 macro_rules! table {
     ($form:ident) => {
         $form! {
@@ -303,7 +306,8 @@ macro_rules! table {
             Event "Event" v (t v v) v Only -;
             EventPreventDefault "Event.prototype.preventDefault" v (v v v) v Never -;
             EventStopPropagation "Event.prototype.stopPropagation" v (v v v) v Never -;
-            EventStopImmediatePropagation "Event.prototype.stopImmediatePropagation" v (v v v) v Never -;
+            EventStopImmediatePropagation "Event.prototype.stopImmediatePropagation"
+                v (v v v) v Never -;
             // Requests
             XMLHttpRequest "XMLHttpRequest" v (v v v) v Only -;
             RequestOpen "XMLHttpRequest.prototype.open" v (t t v) v Never -;

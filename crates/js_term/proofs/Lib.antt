@@ -1,7 +1,15 @@
+pub mod ArenaOperands
+pub mod ArenaSyntax
+pub mod ArenaTrees
 pub mod Dues
 pub mod Keeping
 pub mod Moves
+pub mod Places
+pub mod Profile
+pub mod Pushes
 pub mod Readings
 pub mod Simulation
+pub mod SyntaxImages
 pub mod ThreeRows
 pub mod Trees
+pub mod Values

@@ -55,11 +55,11 @@ module _ {R H : Type 0} (T : Table R H) where
   node-open r done t ts e =
       ap (λ b. cond b (Val Undefined) (Node r (after done (Cons t ts)))) (and_false (T.no_step r) (are_values (after done (Cons t ts))) (no_values done t ts e))
 
-  not_early : (a b : Bool) → (not a && b) ≡ true → a ≡ false
+  pub not_early : (a b : Bool) → (not a && b) ≡ true → a ≡ false
   not_early true b e = cc
   not_early false b e = refl
 
-  passed : (a b : Bool) → (not a && b) ≡ true → b ≡ true
+  pub passed : (a b : Bool) → (not a && b) ≡ true → b ≡ true
   passed true b e = cc
   passed false b e = e
 

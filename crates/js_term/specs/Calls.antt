@@ -1,5 +1,5 @@
--- What a call comes to once its operands are values, and what its native's row converts is converted (ECMA-262 edition 5.1, 11.2.2, 11.2.3, 13.2.1,
--- 13.2.2, 15.3.4.5.1).
+-- What a call comes to once its operands are values, and what its native's row converts is
+-- converted (ECMA-262 edition 5.1, 11.2.2, 11.2.3, 13.2.1, 13.2.2, 15.3.4.5.1).
 use Rattle.std.specs.Prelude.{List, ◌++◌, Bool, true, false, Option, Some, None, cond}
 use Rattle.std.specs.Option.{option_map, option_map_or}
 use Rattle.js_value.specs.Image.{image}
@@ -20,6 +20,8 @@ use Rattle.js_host.specs.declared.call.NativeCall.{NativeCall}
 use Rattle.js_host.specs.declared.call.Outcome.{Outcome}
 use Rattle.js_host.specs.declared.call.Outcome.TheVariants as outcome
 use Rattle.js_host.specs.declared.call.Resume.{Resume}
+use Rattle.js_term.specs.declared.calls.CalledFunction.{CalledFunction}
+use Rattle.js_term.specs.declared.calls.CalledFunction.TheVariants as code
 use Rattle.js_term.specs.declared.completion.Completion.TheVariants.{Throw}
 use Rattle.js_term.specs.Place.{Place}
 use Rattle.js_term.specs.Table.{Question, Step}
@@ -41,8 +43,11 @@ called_class (class.Bound b) = Target b
 called_class (class.Builtin (Some n)) = Host_native n
 called_class c = Uncallable
 
+abbrev pub called_object : Option Class → Called
+called_object c = option_map_or called_class c Uncallable
+
 abbrev pub called_image : World → Value → Called
-called_image w (value.Ref o) = option_map_or called_class (option_map class_of (object_at w o)) Uncallable
+called_image w (value.Ref o) = called_object (option_map class_of (object_at w o))
 called_image w (value.Native n) = Host_native n
 called_image w v = Uncallable
 
@@ -50,16 +55,33 @@ called_image w v = Uncallable
 abbrev pub called : World → Value → Called
 called w v = called_image w (image v)
 
+-- the same as code has it
+abbrev pub called_as : CalledFunction → Called
+called_as (code.Page c) = Page c
+called_as (code.Target b) = Target b.now
+called_as (code.Native n) = Host_native n
+called_as code.Uncallable = Uncallable
+
+-- whether the native of this number may not be called so
+abbrev pub is_refused : NativeId → (by_new : Bool) → Bool
+is_refused id by_new =
+    option_map_or (λ row. refuses row.construct by_new) (native_at id.number) true
+
+-- the call of a bound function's target
+abbrev pub target_call : Bound → List Value → NativeCall
+target_call b vs = record { construct = false; this = b.this; args = b.args ++ vs }
+
 abbrev pub question_of : Kind → Question
 question_of kind.Now = Now
 question_of kind.Rand = Random
 
--- What a table gives for calls. native: the host's definition. entered: a page function's scope and body form. again: a call of a function with this
--- `this` and these arguments. waits: a native that waits for its callback. refused: the TypeError.
+-- What a table gives for calls. native: the host's definition. entered: a page function's scope and
+-- body form. again: a call of a function that isn't a `new`. waits: a native that waits for its
+-- callback. refused: the TypeError.
 pub record Calling (R H : Type 0) : Type 0 where
   pub native : World → H → NativeId → NativeCall → Outcome × World × H
   pub entered : Place → World → H → Code → NativeCall → Step R H
-  pub again : Place → Value → (this : Value) → List Value → Term R
+  pub again : Place → Value → NativeCall → Term R
   pub waits : Place → Callback → Resume → Term R
   pub refused : World → H → Step R H
 
@@ -74,16 +96,15 @@ module _ {R H : Type 0} (C : Calling R H) where
     | outcome.NoMemory ↦ C.refused r.1 r.2
   ]
 
-  -- whether the native of this number may not be called so
-  abbrev pub is_refused : NativeId → Bool → Bool
-  is_refused id by_new = option_map_or (λ row. refuses row.construct by_new) (native_at id.number) true
-
-  -- A page function makes its scope and becomes its body. A bound function becomes the call of its target, and has no `new`. A native is its row, where
-  -- it may be called so. All else throws a TypeError.
+  -- A page function makes its scope and becomes its body. A bound function becomes the call of its
+  -- target, and has no `new`. A native is its row, where it may be called so. All else throws a
+  -- TypeError.
   abbrev pub call_of : Place → World → H → Called → NativeCall → Step R H
   call_of p w h (Page f) c = C.entered p w h f c
-  call_of p w h (Target b) c = cond c.construct (C.refused w h) (Gives (C.again p b.f b.this (b.args ++ c.args)) w h)
-  call_of p w h (Host_native n) c = cond (is_refused n c.construct) (C.refused w h) (native_step p (C.native w h n c))
+  call_of p w h (Target b) c =
+      cond c.construct (C.refused w h) (Gives (C.again p b.f (target_call b c.args)) w h)
+  call_of p w h (Host_native n) c =
+      cond (is_refused n c.construct) (C.refused w h) (native_step p (C.native w h n c))
   call_of p w h Uncallable c = C.refused w h
 
   -- the step of a call whose operands are values

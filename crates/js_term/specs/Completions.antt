@@ -1,4 +1,5 @@
--- The images of completions and of contexts: the values in them stand for what they are without wraps.
+-- The images of completions and of contexts: the values in them stand for what they are without
+-- wraps.
 use Rattle.js_value.specs.Image.{image}
 use Rattle.js_term.specs.declared.completion.Completion.{Completion}
 use Rattle.js_term.specs.declared.completion.Completion.TheVariants.{Break, Continue, Return, Throw}

@@ -1,5 +1,6 @@
--- One contraction. What is due is the first subterm that isn't a value, from the root, in the order of operands: a completion, a node whose
--- operands are values or whose first ones call for an early step, or a hidden form.
+-- One contraction. What is due is the first subterm that isn't a value, from the root, in the order
+-- of operands: a completion, a node whose operands are values or whose first ones call for an early
+-- step, or a hidden form.
 use Rattle.std.specs.Prelude.{List, [], ◌∷◌, ◌++◌, Bool, true, false, Option, Some, None, cond}
 use Rattle.js_value.specs.declared.value.Value.TheVariants.{Undefined}
 use Rattle.js_value.specs.declared.value.Value.{Value}
@@ -12,7 +13,8 @@ use Rattle.js_term.specs.Term.Terms.{Nil, Cons}
 use Rattle.js_term.specs.Table.{Entry, Left, Question, Step, Table}
 use Rattle.js_term.specs.Table.Step.{Gives, Asks}
 
--- what a term comes to: it is a value or a completion, it makes a step, hidden or of the page, or it asks
+-- what a term comes to: it is a value or a completion, it makes a step, hidden or of the page, or
+-- it asks
 pub data Contraction (R H : Type 0) : Type 0 where
   Ends : Value → Contraction R H
   Stops : Completion → Contraction R H
@@ -29,20 +31,25 @@ page_step (Asks q) = Questions q
 module _ {R H : Type 0} (T : Table R H) where
   -- a node after a step of one of its operands
   abbrev pub within : R → List Value → Terms R → Contraction R H → Contraction R H
-  within r done ts (Steps hidden t w h) = Steps hidden (node T.no_step r (after done (Cons t ts))) w h
+  within r done ts (Steps hidden t w h) =
+      Steps hidden (node T.no_step r (after done (Cons t ts))) w h
   within r done ts o = o
 
-  -- a node whose operands are values enters a hidden function, or is finished where its row has no step, or makes its row's step
+  -- a node whose operands are values enters a hidden function, or is finished where its row has no
+  -- step, or makes its row's step
   abbrev pub at_rest : Context → World → H → R → List Value → Option Entry → Contraction R H
   at_rest c w h r vs (Some e) = hidden_step (Ready (start e.function) r e.values) w h
   at_rest c w h r vs None = cond (T.no_step r) (Ends Undefined) (page_step (T.make c w h r vs))
 
-  -- a hidden function before its apply makes its next statement, or the apply, which brings the node
+  -- a hidden function before its apply makes its next statement, or the apply, which brings the
+  -- node
   abbrev pub at_ready : World → H → Hidden → R → List Value → Option (Left H) → Contraction R H
   at_ready w h f r vs (Some l) = hidden_step (Ready (next f) r l.values) w l.host
-  at_ready w h f r vs None = hidden_step (Hold (start f.function) (node T.no_step r (after vs Nil))) w h
+  at_ready w h f r vs None =
+      hidden_step (Hold (start f.function) (node T.no_step r (after vs Nil))) w h
 
-  -- what a hidden function does at a statement from its apply on, with what it keeps: that statement, or it gives what it keeps back
+  -- what a hidden function does at a statement from its apply on, with what it keeps: that
+  -- statement, or it gives what it keeps back
   abbrev pub behind_apply : World → Hidden → Term R → H → Option H → Contraction R H
   behind_apply w f t h (Some k) = hidden_step (Hold (next f) t) w k
   behind_apply w f t h None = hidden_step t w h
@@ -71,9 +78,11 @@ module _ {R H : Type 0} (T : Table R H) where
 
     pub first : Context → World → H → R → List Value → Terms R → Contraction R H
     first c w h r done Nil = at_rest c w h r done (T.enters c w h r done)
-    first c w h r done (Cons t ts) = cond (T.is_early r done) (page_step (T.early c w h r done (Cons t ts))) (elim (contract (T.inner r c) w h t) [
-      | Ends v ↦ first c w h r (done ++ v ∷ []) ts
-      | Stops k ↦ page_step (T.meets c w h r k)
-      | Steps hidden u w' h' ↦ within r done ts (Steps hidden u w' h')
-      | Questions q ↦ Questions q
-    ])
+    first c w h r done (Cons t ts) =
+        cond (T.is_early r done) (page_step (T.early c w h r done (Cons t ts)))
+        (elim (contract (T.inner r c) w h t) [
+          | Ends v ↦ first c w h r (done ++ v ∷ []) ts
+          | Stops k ↦ page_step (T.meets c w h r k)
+          | Steps hidden u w' h' ↦ within r done ts (Steps hidden u w' h')
+          | Questions q ↦ Questions q
+        ])

@@ -9,13 +9,15 @@ use Rattle.js_term.specs.Table.{Table}
 use Rattle.js_term.specs.Contraction.{Contraction}
 use Rattle.js_term.specs.Contraction.Contraction.{Steps, Questions}
 
--- Waiting: a row with the operands that are values and those that come behind the one which it waits for. Applying: a hidden function during its
--- apply. An operand to come is anything that stands for a term, such as a node of an arena.
+-- Waiting: a row with the operands that are values and those that come behind the one which it
+-- waits for. Applying: a hidden function during its apply. An operand to come is anything that
+-- stands for a term, such as a node of an arena.
 pub data Frame (R X : Type 0) : Type 0 where
   Waiting : R → List Value → List X → Frame R X
   Applying : Hidden → Frame R X
 
--- what stands at the top: Alone: a term. Resting: a row with the operands that are values and those to come, none of which has begun
+-- what stands at the top: Alone: a term. Resting: a row with the operands that are values and those
+-- to come, none of which has begun
 pub data Focus (R X : Type 0) : Type 0 where
   Alone : Term R → Focus R X
   Resting : R → List Value → List X → Focus R X
@@ -56,7 +58,8 @@ passes is_early r done (v ∷ vs) = not (is_early r done) && passes is_early r (
 
 -- a frame waits for an operand that its row evaluates, and has no early step
 abbrev pub IsSettled : {R X H : Type 0} → Table R H → Frame R X → Type 0
-IsSettled T (Waiting r done todo) = (passes T.is_early r [] done ≡ true) × (T.is_early r done ≡ false)
+IsSettled T (Waiting r done todo) =
+    (passes T.is_early r [] done ≡ true) × (T.is_early r done ≡ false)
 IsSettled T (Applying f) = Unit {0}
 
 abbrev pub AreSettled : {R X H : Type 0} → Table R H → List (Frame R X) → Type 0

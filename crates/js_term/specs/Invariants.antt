@@ -56,17 +56,25 @@ module _ {R H : Type 0} (F : Facts R H) where
     pub same : (w : World) → F.later w w
     pub value : (w w' : World) (v : Value) → F.later w w' → F.value w v → F.value w' v
     pub row : (w w' : World) (r : R) → F.later w w' → F.row w r → F.row w' r
-    pub completion : (w w' : World) (k : Completion) → F.later w w' → F.completion w k → F.completion w' k
+    pub completion : (w w' : World) (k : Completion) → F.later w w' → F.completion w k
+        → F.completion w' k
     pub undefined : (w : World) → F.value w Undefined
-    pub inner : (w : World) (r : R) (c : Context) → F.row w r → F.context w c → F.context w (T.inner r c)
-    pub make : (c : Context) (w : World) (h : H) (r : R) (vs : List Value) → T.no_step r ≡ false → T.enters c w h r vs ≡ None
-        → F.context w c → F.host w h → F.row w r → Each (F.value w) vs → StepHas w (T.make c w h r vs)
+    pub inner : (w : World) (r : R) (c : Context) → F.row w r → F.context w c
+        → F.context w (T.inner r c)
+    pub make : (c : Context) (w : World) (h : H) (r : R) (vs : List Value) → T.no_step r ≡ false
+        → T.enters c w h r vs ≡ None
+        → F.context w c → F.host w h → F.row w r → Each (F.value w) vs
+        → StepHas w (T.make c w h r vs)
     pub early : (c : Context) (w : World) (h : H) (r : R) (vs : List Value) (ts : Terms R)
-        → F.context w c → F.host w h → F.row w r → Each (F.value w) vs → TermsHas w ts → StepHas w (T.early c w h r vs ts)
+        → F.context w c → F.host w h → F.row w r → Each (F.value w) vs → TermsHas w ts
+        → StepHas w (T.early c w h r vs ts)
     pub meets : (c : Context) (w : World) (h : H) (r : R) (k : Completion)
         → F.context w c → F.host w h → F.row w r → F.completion w k → StepHas w (T.meets c w h r k)
-    pub entry : (c : Context) (w : World) (h : H) (r : R) (vs : List Value) (e : Entry) → T.enters c w h r vs ≡ Some e
+    pub entry : (c : Context) (w : World) (h : H) (r : R) (vs : List Value) (e : Entry)
+        → T.enters c w h r vs ≡ Some e
         → Each (F.value w) vs → Each (F.value w) e.values
-    pub before : (w : World) (h : H) (f : Hidden) (r : R) (vs : List Value) (l : Left H) → T.before w h f r vs ≡ Some l
+    pub before : (w : World) (h : H) (f : Hidden) (r : R) (vs : List Value) (l : Left H)
+        → T.before w h f r vs ≡ Some l
         → F.host w h → Each (F.value w) vs → F.host w l.host × Each (F.value w) l.values
-    pub behind : (w : World) (h k : H) (f : Hidden) (stopped : Bool) → T.behind h f stopped ≡ Some k → F.host w h → F.host w k
+    pub behind : (w : World) (h k : H) (f : Hidden) (stopped : Bool) → T.behind h f stopped ≡ Some k
+        → F.host w h → F.host w k

@@ -1,7 +1,11 @@
+pub mod ArenaOperands
+pub mod ArenaSyntax
 pub mod Calls
 pub mod Completions
 pub mod Contraction
 pub mod Due
+pub mod Evaluation
+pub mod FrameMoves
 pub mod Frames
 pub mod Images
 pub mod Invariants

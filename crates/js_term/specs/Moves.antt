@@ -1,4 +1,5 @@
--- The moves of a stack that cost nothing: an operand begins, a value is taken, and a node that has no step is finished.
+-- The moves of a stack that cost nothing: an operand begins, a value is taken, and a node that has
+-- no step is finished.
 use Rattle.std.specs.Prelude.{ℕ, ◌+◌, ◌<◌, ◌≡◌, true, List, [], ◌∷◌, ◌++◌, Bool, Option, Some, None}
 use Rattle.js_value.specs.declared.value.Value.{Value}
 use Rattle.js_value.specs.declared.value.Value.TheVariants.{Undefined}
@@ -19,11 +20,12 @@ pub record Stack (R X : Type 0) : Type 0 where
   pub frames : List (Frame R X)
   pub focus : Focus R X
 
--- what an operand to come stands for, how it begins, and how many free moves that takes at most
+-- what an operand to come of a row stands for, how it begins, and how many free moves that takes at
+-- most
 pub record Syntax (R X : Type 0) : Type 0 where
   pub term : R → X → Term R
   pub begins : R → X → Focus R X
-  pub weight : X → ℕ
+  pub weight : R → X → ℕ
 
 pub data FreeMove (R X : Type 0) : Type 0 where
   Begin : List (Frame R X) → R → List Value → X → List X → FreeMove R X
@@ -33,21 +35,24 @@ pub data FreeMove (R X : Type 0) : Type 0 where
 module _ {R X : Type 0} (S : Syntax R X) where
   abbrev pub before_move : FreeMove R X → Stack R X
   before_move (Begin fs r done x todo) = record { frames = fs; focus = Resting r done (x ∷ todo) }
-  before_move (Take fs r done v todo) = record { frames = fs ++ Waiting r done todo ∷ []; focus = Alone (Val v) }
+  before_move (Take fs r done v todo) =
+      record { frames = fs ++ Waiting r done todo ∷ []; focus = Alone (Val v) }
   before_move (Finish fs r done) = record { frames = fs; focus = Resting r done [] }
 
   abbrev pub after_move : FreeMove R X → Stack R X
-  after_move (Begin fs r done x todo) = record { frames = fs ++ Waiting r done todo ∷ []; focus = S.begins r x }
-  after_move (Take fs r done v todo) = record { frames = fs; focus = Resting r (done ++ v ∷ []) todo }
+  after_move (Begin fs r done x todo) =
+      record { frames = fs ++ Waiting r done todo ∷ []; focus = S.begins r x }
+  after_move (Take fs r done v todo) =
+      record { frames = fs; focus = Resting r (done ++ v ∷ []) todo }
   after_move (Finish fs r done) = record { frames = fs; focus = Alone (Val Undefined) }
 
   abbrev pub frame_weight : Frame R X → ℕ
-  frame_weight (Waiting r done todo) = 2 + total S.weight todo
+  frame_weight (Waiting r done todo) = 2 + total (S.weight r) todo
   frame_weight (Applying f) = 0
 
   abbrev pub focus_weight : Focus R X → ℕ
   focus_weight (Alone t) = 2
-  focus_weight (Resting r done todo) = 3 + total S.weight todo
+  focus_weight (Resting r done todo) = 3 + total (S.weight r) todo
 
   -- how many free moves a stack has at most
   abbrev pub stack_weight : Stack R X → ℕ
@@ -66,9 +71,10 @@ module _ {R X : Type 0} (S : Syntax R X) where
     -- what an operand begins as is the same term, and lighter
     pub record IsSyntax : Type 0 where
       pub same : (r : R) (x : X) → focus_term no_step S.term (S.begins r x) ≡ S.term r x
-      pub lighter : (r : R) (x : X) → focus_weight (S.begins r x) < 1 + S.weight x
+      pub lighter : (r : R) (x : X) → focus_weight (S.begins r x) < 1 + S.weight r x
 
--- trees as operands to come, where `text` gives the text of a row and `labels` the labels that stand directly around its operands
+-- trees as operands to come, where `text` gives the text of a row and `labels` the labels that
+-- stand directly around its operands
 module _ {R : Type 0} (row : Labels → Place → Production → Tree → R) where
   -- a node begins as its value, where it is a literal, or with none of its operands begun
   abbrev pub begun : (text unit : ℕ) → Labels → Production → Tree → Option Value → Focus R Tree
@@ -79,9 +85,10 @@ module _ {R : Type 0} (row : Labels → Place → Production → Tree → R) whe
   begun_tree x ls (Made p u v ts) = begun x u ls p ts (literal p ts)
   begun_tree x ls t = Alone (Val Undefined)
 
-abbrev pub tree_syntax : {R : Type 0} → (R → Bool) → (Labels → Place → Production → Tree → R) → (text : R → ℕ) → (labels : R → Labels) → Syntax R Tree
+abbrev pub tree_syntax : {R : Type 0} → (R → Bool) → (Labels → Place → Production → Tree → R)
+    → (text : R → ℕ) → (labels : R → Labels) → Syntax R Tree
 tree_syntax no_step row text labels = record {
   term = λ r t. term_of no_step row (text r) (labels r) t;
   begins = λ r t. begun_tree row (text r) (labels r) t;
-  weight = weight;
+  weight = λ r. weight;
 }

@@ -13,7 +13,8 @@ pub data Question : Type 0 where
   Random : Question
   Source : List ℕ → Question
 
--- what a row's step gives: what stands in the node's place, and world and host after it; or a question, with which nothing changes
+-- what a row's step gives: what stands in the node's place, and world and host after it; or a
+-- question, with which nothing changes
 pub data Step (R H : Type 0) : Type 0 where
   Gives : Term R → World → H → Step R H
   Asks : Question → Step R H
@@ -28,11 +29,14 @@ pub record Left (H : Type 0) : Type 0 where
   pub values : List Value
   pub host : H
 
--- A table is given for one answer, where there is one: what asks is a question in the table of no answer, and a step in that of its answer.
--- no_step: the row has no step of its own. inner: where its operands are evaluated. is_early: a node whose first operands are these values makes a
--- step before the next one is evaluated. early: that step, of the operands behind as they stand. make: the step of a node whose operands are values.
--- meets: the step of a node which a completion has reached. enters: the hidden function that is entered first, where there is one. before: its next
--- statement before the apply, where one is left. behind: the same from the apply on, by whether a completion is kept.
+-- A table is given for one answer, where there is one: what asks is a question in the table of no
+-- answer, and a step in that of its answer. no_step: the row has no step of its own. inner: where
+-- its operands are evaluated. is_early: a node whose first operands are these values makes a step
+-- before the next one is evaluated. early: that step, of the operands behind as they stand. make:
+-- the step of a node whose operands are values. meets: the step of a node which a completion has
+-- reached. enters: the hidden function that is entered first, where there is one. before: its next
+-- statement before the apply, where one is left. behind: the same from the apply on, by whether a
+-- completion is kept.
 pub record Table (R H : Type 0) : Type 0 where
   pub no_step : R → Bool
   pub inner : R → Context → Context

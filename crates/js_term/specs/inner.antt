@@ -1,1 +1,2 @@
 pub mod ThreeRows
+pub mod Values

@@ -1,5 +1,5 @@
 use Rattle.js_host.proofs.Plain.{get-plain}
-use Rattle.js_host.proofs.Shown.{shown-plain}
+use Rattle.js_host.proofs.ShownImages.{shown-plain}
 use Rattle.js_host.proofs.laws.images_are_shown_and_read.Goals as goal
 
 pub returns : goal.returns

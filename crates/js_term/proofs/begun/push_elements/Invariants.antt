@@ -1,0 +1,8 @@
+-- The operands of what was passed stand behind those before.
+use Rattle.std.proofs.Common.{◌≡◌, take}
+use Rattle.js_term.specs.ArenaOperands.{as_operands, elements_there}
+use Rattle.js_term.specs.Evaluation.{and_then}
+use Rattle.js_term.proofs.begun.push_elements.Given as goal
+
+abbrev pub invariant-loop-id : goal.invariant-loop-id
+invariant-loop-id l = l.operands ≡ and_then (as_operands (elements_there (take l.id-index l.ids))) l.fn.operands
