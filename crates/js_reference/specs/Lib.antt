@@ -10,3 +10,4 @@ pub mod Puts
 pub mod Deletes
 pub mod Names
 pub mod Keys
+pub mod Later

@@ -1,10 +1,11 @@
 // How a property is deleted.
-ghost use Rattle.std.specs.Prelude.{◌≡◌, ◌<◌, ◌∷◌, IfOk, length};
+ghost use Rattle.std.specs.Prelude.{◌≡◌, ◌<◌, ◌∷◌, IfOk, OnOk, length};
 ghost use Rattle.js_value.specs.declared.value.Value.TheVariants.{Ref};
 ghost use Rattle.js_host.specs.There.{AreThere};
 ghost use Rattle.js_reference.specs.Answers.{Gives, answered_names};
 ghost use Rattle.js_reference.specs.Deletes as deletes;
 ghost use Rattle.js_reference.specs.Hosted.{hosted};
+ghost use Rattle.js_reference.specs.Later.{IsLater};
 
 use crate::reads::{LENGTH, text_own};
 use crate::{Answered, ErrorName, thrown};
@@ -35,6 +36,7 @@ fn delete_object<H: Host>(
         a heap.new host.now) }
     ensures there { IfOk result (λ a.
         AreThere heap.new (answered_names a (H.names.host host.now))) }
+    ensures more { OnOk result (IsLater heap.old heap.new) }
 {
     if host.get_own(heap, object, key)?.is_some() {
         return Ok(Answered::Returns(Value::Bool(true)));
@@ -58,6 +60,7 @@ pub fn delete<H: Host>(
         (deletes.delete (hosted H.rows) heap.old host.now base.now key.now) a heap.new host.now) }
     ensures there { IfOk result (λ a.
         AreThere heap.new (answered_names a (H.names.host host.now))) }
+    ensures more { OnOk result (IsLater heap.old heap.new) }
 {
     match base {
         Value::Undefined | Value::Null => thrown(alloc, host, heap, ErrorName::TypeError),

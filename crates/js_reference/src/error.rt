@@ -5,6 +5,7 @@ ghost use Rattle.js_heap.specs.Closed.{IsThere};
 ghost use Rattle.js_host.specs.There.{AreThere};
 ghost use Rattle.js_reference.specs.Answers.{Gives, answered_names};
 ghost use Rattle.js_reference.specs.Errors as errors;
+ghost use Rattle.js_reference.specs.Later.{IsLater};
 
 use crate::Answered;
 use js_heap::{Class, Heap, HeapFault, Root};
@@ -80,6 +81,7 @@ pub fn thrown<H>(
         Gives (errors.thrown name heap.old host.now) a heap.new host.now) }
     ensures there { (vs : List Held) → AreThere heap.old vs
         → IfOk result (λ a. AreThere heap.new (answered_names a vs)) }
+    ensures more { OnOk result (IsLater heap.old heap.new) }
 {
     let error = new_error(alloc, heap, name)?;
     Ok(Answered::Throws(error))

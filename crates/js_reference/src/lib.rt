@@ -20,7 +20,7 @@ pub use deletes::delete;
 pub use error::{ErrorName, new_error, thrown};
 pub use functions::{FunctionNames, make_function};
 pub use keys::keys_in;
-pub use names::{read_name, write_name};
+pub use names::{name_value, read_name, write_name};
 pub use reads::{property, read};
 pub use room::{objects_fit, scopes_fit};
 pub use writes::{write, write_object};

@@ -1,5 +1,5 @@
 // Names: in the nearest scope that has one, or else on the window and its prototypes.
-ghost use Rattle.std.specs.Prelude.{◌≡◌, ◌∷◌, [], Some, None, IfOk, MatchBool, length};
+ghost use Rattle.std.specs.Prelude.{◌≡◌, ◌∷◌, [], Some, None, IfOk, OnOk, MatchBool, length};
 ghost use Rattle.std.specs.Option.{option_map};
 ghost use Rattle.js_heap.specs.Chains.{IsBelow};
 ghost use Rattle.js_heap.specs.Closed.{IsThere};
@@ -8,6 +8,7 @@ ghost use Rattle.js_host.specs.Names.{option_names};
 ghost use Rattle.js_host.specs.There.{AreThere};
 ghost use Rattle.js_reference.specs.Answers.{Gives, answered_names};
 ghost use Rattle.js_reference.specs.Hosted.{hosted};
+ghost use Rattle.js_reference.specs.Later.{IsLater};
 ghost use Rattle.js_reference.specs.Names as names;
 
 use crate::reads::object_property;
@@ -33,8 +34,8 @@ fn scoped(heap: &Heap, scope: Option<ScopeId>, name: &JText) -> Result<Option<Va
     }
 }
 
-// What the name means, where it is bound.
-fn name_value<H: Host>(
+/// What the name means, where it is bound.
+pub fn name_value<H: Host>(
     host: &H,
     heap: &Heap,
     scope: Option<ScopeId>,
@@ -67,6 +68,7 @@ pub fn read_name<H: Host>(
         (names.read_name (hosted H.rows) heap.old host.now scope name.now) a heap.new host.now) }
     ensures there { IfOk result (λ a.
         AreThere heap.new (answered_names a (H.names.host host.now))) }
+    ensures more { OnOk result (IsLater heap.old heap.new) }
 {
     match name_value(host, heap, scope, name)? {
         Some(value) => Ok(Answered::Returns(value)),
@@ -109,6 +111,7 @@ pub fn write_name<H: Host>(
         a heap.new host.new) }
     ensures there { IfOk result (λ a.
         AreThere heap.new (answered_names a (H.names.host host.new))) }
+    ensures more { OnOk result (IsLater heap.old heap.new) }
 {
     if assign(heap, scope, name, &value)? {
         return Ok(Answered::Returns(value));

@@ -1,11 +1,12 @@
 // The properties of values, and how one is read.
-ghost use Rattle.std.specs.Prelude.{◌≡◌, ◌∷◌, IfOk};
+ghost use Rattle.std.specs.Prelude.{◌≡◌, ◌∷◌, IfOk, OnOk};
 ghost use Rattle.js_value.specs.declared.value.Value.TheVariants.{Ref};
 ghost use Rattle.js_host.specs.Names.{option_names};
 ghost use Rattle.js_host.specs.There.{AreThere};
 ghost use Rattle.js_reference.specs.Answers.{Gives, answered_names};
 ghost use Rattle.js_reference.specs.Errors.{root_object};
 ghost use Rattle.js_reference.specs.Hosted.{hosted};
+ghost use Rattle.js_reference.specs.Later.{IsLater};
 ghost use Rattle.js_reference.specs.Properties as properties;
 
 use crate::own::own_property;
@@ -158,6 +159,7 @@ pub fn read<H: Host>(
         (properties.read (hosted H.rows) heap.old host.now base.now key.now) a heap.new host.now) }
     ensures there { IfOk result (λ a.
         AreThere heap.new (answered_names a (H.names.host host.now))) }
+    ensures more { OnOk result (IsLater heap.old heap.new) }
 {
     if matches!(base, Value::Undefined | Value::Null) {
         return thrown(alloc, host, heap, ErrorName::TypeError);

@@ -8,6 +8,7 @@ ghost use Rattle.js_host.specs.Names.{put_names};
 ghost use Rattle.js_host.specs.There.{AreThere};
 ghost use Rattle.js_reference.specs.Answers.{Gives, answered_names};
 ghost use Rattle.js_reference.specs.Hosted.{hosted};
+ghost use Rattle.js_reference.specs.Later.{IsLater};
 ghost use Rattle.js_reference.specs.Puts as puts;
 
 use crate::{Answered, ErrorName, thrown};
@@ -40,6 +41,8 @@ fn host_writes_keep<H: Host>(heap: &Heap)
         AreThere r.1 (put_names r.0 (H.names.host r.2)) }
     ensures more { (h : H) (o : ObjId) (x : List ℕ) (v : Held)
         → length heap.now.objects ≤ length (H.rows.put_own heap.now h o x v).1.objects }
+    ensures later { (h : H) (o : ObjId) (x : List ℕ) (v : Held)
+        → IsLater heap.now (H.rows.put_own heap.now h o x v).1 }
     ensures unheld { (h : H) (o : ObjId) (x : List ℕ) (v : Held)
         → let r = H.rows.put_own heap.now h o x v in PutsNothing heap.now h r.0 r.1 r.2 }
 {
@@ -63,6 +66,7 @@ fn put_listed<H: Host>(
         (puts.put_listed heap.old host.now object key.now value) a heap.new host.now) }
     ensures there { IfOk result (λ a.
         AreThere heap.new (answered_names a (H.names.host host.now))) }
+    ensures more { OnOk result (IsLater heap.old heap.new) }
 {
     let written = value.copy()?;
     match heap.put(object, key, value, true) {
@@ -88,6 +92,7 @@ pub fn write_object<H: Host>(
         a heap.new host.new) }
     ensures there { IfOk result (λ a.
         AreThere heap.new (answered_names a (H.names.host host.new))) }
+    ensures more { OnOk result (IsLater heap.old heap.new) }
 {
     if is_fixed(heap, object, key) {
         return Ok(Answered::Returns(value));
@@ -117,6 +122,7 @@ pub fn write<H: Host>(
         a heap.new host.new) }
     ensures there { IfOk result (λ a.
         AreThere heap.new (answered_names a (H.names.host host.new))) }
+    ensures more { OnOk result (IsLater heap.old heap.new) }
 {
     match base {
         Value::Undefined | Value::Null => thrown(alloc, host, heap, ErrorName::TypeError),

@@ -1,4 +1,4 @@
-use Rattle.std.proofs.Common.{◌≡◌, ◌<◌, ◌∷◌, length, arith}
+use Rattle.std.proofs.Common.{◌≡◌, ◌<◌, ◌∷◌, length, ap, sym, arith}
 use Rattle.js_value.specs.declared.value.Value.TheVariants.{Ref}
 use Rattle.js_host.specs.Names.{put_names}
 use Rattle.js_host.specs.Tests.{there}
@@ -20,5 +20,8 @@ returns g c =
           are_there r.1 (means r.1) (put_names r.0 (g.H.Host.names.host r.2))
           ((g.met.H.Host.keeps.put_own w h o x v).passes there c.tests_last.ensures.there all);
       more = λ h o x v. no_fewer w (g.H.Host.rows.put_own w h o x v).1 (g.met.H.Host.keeps.put_own w h o x v).grows;
+      later = λ h o x v.
+          let grows = (g.met.H.Host.keeps.put_own w h o x v).grows in
+          record { objects = no_fewer w (g.H.Host.rows.put_own w h o x v).1 grows; scopes = ap length (sym grows.scopes) };
       unheld = λ h o x v. g.met.H.Host.answers.unheld w h o x v;
     }
