@@ -1,0 +1,5 @@
+pub mod Gathering
+pub mod Sorting
+pub mod Behind
+pub mod Entries
+pub mod Declaring
