@@ -1,0 +1,10 @@
+pub mod Rows
+pub mod Sources
+pub mod Arguments
+pub mod Changes
+pub mod Makers
+pub mod Edits
+pub mod Joins
+pub mod Walks
+pub mod Natives
+pub mod inner
