@@ -1,6 +1,8 @@
--- Assignments (ECMA-262 edition 5.1, 11.13). What a member's base and key are is settled before the right side is evaluated: a base that is undefined
--- or null throws in place of all the rest, and a key that is an object is converted.
-use Rattle.std.specs.Prelude.{ℕ, Bool, false, not, ◌||◌, List, [], ◌∷◌, ◌++◌, if◌then◌else◌}
+-- Assignments (ECMA-262 edition 5.1, 11.13). What a member's base and key are is settled before the
+-- right side is evaluated: a base that is undefined or null throws in place of all the rest, and a
+-- key that is an object is converted.
+use Rattle.std.specs.Prelude.{ℕ, suc, Bool, false, not, ◌||◌, List, [], ◌∷◌, drop, take}
+use Rattle.std.specs.Prelude.{if◌then◌else◌}
 use Rattle.js_value.specs.Image.{is_primitive}
 use Rattle.js_ops.specs.declared.equality.Hint.TheVariants as hint
 use Rattle.js_value.specs.declared.value.Value.{Value}
@@ -8,24 +10,23 @@ use Rattle.js_ops.specs.Convert.{is_missing, to_text}
 use Rattle.js_heap.specs.World.{World}
 use Rattle.js_reference.specs.declared.error.ErrorName.TheVariants.{TypeError}
 use Rattle.js_reference.specs.Names.{read_name, write_name}
+use Rattle.js_reference.specs.Own.{OwnProperties}
 use Rattle.js_reference.specs.Properties.{read}
 use Rattle.js_reference.specs.Puts.{write}
 use Rattle.js_term.specs.declared.context.Context.{Context}
-use Rattle.js_term.specs.Place.{Place}
-use Rattle.js_term.specs.Table.{Step}
-use Rattle.js_term.specs.Term.{Term, Terms}
-use Rattle.js_term.specs.Term.Term.{Val, Node}
-use Rattle.js_term.specs.Term.Terms.{Cons}
 use Rattle.js_tree.specs.Trees.{Tree}
 use Rattle.js_tree.specs.declared.production.BinaryOperator.{BinaryOperator}
+use Rattle.js_control.specs.Made.{Made}
 use Rattle.js_control.specs.Rows.{ExprRow}
-use Rattle.js_control.specs.Rows.ExprRow.{AssignIndex, AssignMember, AssignName, ComputeIndex, ComputeMember, ComputeName, ReviseIndex}
-use Rattle.js_control.specs.Setting.{Setting}
-use Rattle.js_control.specs.Steps.{around, gives, goes_on, no_node, over, throws}
-use Rattle.js_control.specs.Conversions.{convert, key_wanted, prepared}
-use Rattle.js_control.specs.Operations.{operate, operation, operation_wants}
+use Rattle.js_control.specs.Rows.ExprRow.{AssignIndex, AssignMember, AssignName}
+use Rattle.js_control.specs.Rows.ExprRow.{ComputeIndex, ComputeMember, ComputeName, ReviseIndex}
+use Rattle.js_control.specs.Steps.{gives, goes_on, operand_at, throws, with_value}
+use Rattle.js_control.specs.Conversions.{convert, converts, keyed, prepared}
+use Rattle.js_control.specs.Operators.{operator_wants}
+use Rattle.js_operations.specs.Operations.{operate, operation}
 
--- An assignment to a member makes an early step behind its base, where that is undefined or null, and behind its key, where that is an object too.
+-- An assignment to a member makes an early step behind its base, where that is undefined or null,
+-- and behind its key, where that is an object too.
 abbrev pub member_is_early : List Value → Bool
 member_is_early (e ∷ []) = is_missing e
 member_is_early vs = false
@@ -34,63 +35,58 @@ abbrev pub index_is_early : List Value → Bool
 index_is_early (e ∷ k ∷ []) = is_missing e || not (is_primitive k)
 index_is_early vs = false
 
-module _ {R H : Type 0} (S : Setting R H) (p : Place) where
-  abbrev pub converted_key : Value → Terms R → Term R → Term R
-  converted_key e ts t = Node (S.row p AssignIndex) (Cons (Val e) (Cons t ts))
+module _ {H : Type 0} (O : OwnProperties H) (w : World) (h : H) where
+  -- behind so many operands of the target; the operator's result is written in a step of its own
+  abbrev pub computed : (row next : ExprRow) → ℕ → BinaryOperator → List Value → Made H
+  computed r next n o vs =
+      let a : Value = operand_at vs n in
+      let b : Value = operand_at vs (suc n) in
+      prepared O w h r (operator_wants n o a b) vs
+      (goes_on (with_value next (take n vs) []) (operate O w h (operation o) a b))
 
-module _ {R H : Type 0} (S : Setting R H) (p : Place) (c : Context) (w : World) (h : H) where
-  abbrev pub assign_name_row : List ℕ → List Value → Step R H
-  assign_name_row x (v ∷ []) = gives (write_name S.own w h c.scope x v)
-  assign_name_row x vs = no_node w h
-
-  abbrev pub assign_member_row : List ℕ → List Value → Step R H
-  assign_member_row k (e ∷ v ∷ []) = gives (write S.own w h e k v)
-  assign_member_row k vs = no_node w h
-
-  abbrev pub assign_index_row : List Value → Step R H
-  assign_index_row (e ∷ k ∷ v ∷ []) = gives (write S.own w h e (to_text k) v)
-  assign_index_row vs = no_node w h
-
-  -- the early step of an assignment to a member, in place of all that is behind its base and key, or before it
-  abbrev pub early_member : Step R H
-  early_member = throws TypeError w h
-
-  abbrev pub early_index : List Value → Terms R → Step R H
-  early_index (e ∷ k ∷ []) ts = if is_missing e then throws TypeError w h else around (converted_key S p e ts) (convert S p w h hint.Text k)
-  early_index vs ts = no_node w h
+module _ {H : Type 0} (O : OwnProperties H) (c : Context) (w : World) (h : H) where
+  abbrev pub assign_name_row : List ℕ → List Value → Made H
+  assign_name_row x vs = gives (write_name O w h c.scope x (operand_at vs 0))
 
   -- the target is read before the right side is evaluated
-  abbrev pub revised : ExprRow → (front : List Value) → Tree → Value → Term R
-  revised r front right a = over S p r (front ++ a ∷ []) (right ∷ [])
+  abbrev pub revise_name_row : BinaryOperator → List ℕ → Tree → List Value → Made H
+  revise_name_row o x right vs =
+      goes_on (with_value (ComputeName o x) vs (right ∷ [])) (read_name O w h c.scope x)
 
-  abbrev pub revise_name_row : BinaryOperator → List ℕ → Tree → Step R H
-  revise_name_row o x right = goes_on (revised (ComputeName o x) [] right) (read_name S.own w h c.scope x)
+module _ {H : Type 0} (O : OwnProperties H) (w : World) (h : H) where
+  abbrev pub assign_member_row : List ℕ → List Value → Made H
+  assign_member_row k vs = gives (write O w h (operand_at vs 0) k (operand_at vs 1))
 
-  abbrev pub revise_member_row : BinaryOperator → List ℕ → Tree → List Value → Step R H
-  revise_member_row o k right (e ∷ []) = goes_on (revised (ComputeMember o k) (e ∷ []) right) (read S.own w h e k)
-  revise_member_row o k right vs = no_node w h
+  abbrev pub assign_index_row : List Value → Made H
+  assign_index_row vs =
+      gives (write O w h (operand_at vs 0) (to_text (operand_at vs 1)) (operand_at vs 2))
 
-  abbrev pub revise_index_row : BinaryOperator → Tree → List Value → Step R H
-  revise_index_row o right (e ∷ k ∷ []) =
-      if is_missing e then throws TypeError w h
-      else prepared S p w h (e ∷ []) (ReviseIndex o right) key_wanted (k ∷ [])
-      (goes_on (revised (ComputeIndex o) (e ∷ k ∷ []) right) (read S.own w h e (to_text k)))
-  revise_index_row o right vs = no_node w h
+  -- the early step of an assignment to a member, in place of all that is behind its base and key,
+  -- or before it
+  abbrev pub early_member : Made H
+  early_member = throws TypeError w h
 
-  -- the operator's result is written in a step of its own
-  abbrev pub computed : (row : ExprRow) → (front : List Value) → (next : ExprRow) → BinaryOperator → Value → Value → Step R H
-  computed r front next o a b =
-      prepared S p w h front r (operation_wants (operation o) a b) (a ∷ b ∷ [])
-      (goes_on (λ v. over S p next (front ++ v ∷ []) []) (operate S.own w h (operation o) a b))
+  abbrev pub early_index : List Value → Made H
+  early_index vs =
+      if is_missing (operand_at vs 0) then throws TypeError w h
+      else converts w h AssignIndex (take 1 vs) (drop 2 vs)
+      (convert O w h hint.Text (operand_at vs 1))
 
-  abbrev pub compute_name_row : BinaryOperator → List ℕ → List Value → Step R H
-  compute_name_row o x (a ∷ b ∷ []) = computed (ComputeName o x) [] (AssignName x) o a b
-  compute_name_row o x vs = no_node w h
+  abbrev pub revise_member_row : BinaryOperator → List ℕ → Tree → List Value → Made H
+  revise_member_row o k right vs =
+      goes_on (with_value (ComputeMember o k) vs (right ∷ [])) (read O w h (operand_at vs 0) k)
 
-  abbrev pub compute_member_row : BinaryOperator → List ℕ → List Value → Step R H
-  compute_member_row o k (e ∷ a ∷ b ∷ []) = computed (ComputeMember o k) (e ∷ []) (AssignMember k) o a b
-  compute_member_row o k vs = no_node w h
+  abbrev pub revise_index_row : BinaryOperator → Tree → List Value → Made H
+  revise_index_row o right vs =
+      keyed O w h (ReviseIndex o right) vs
+      (goes_on (with_value (ComputeIndex o) vs (right ∷ []))
+      (read O w h (operand_at vs 0) (to_text (operand_at vs 1))))
 
-  abbrev pub compute_index_row : BinaryOperator → List Value → Step R H
-  compute_index_row o (e ∷ k ∷ a ∷ b ∷ []) = computed (ComputeIndex o) (e ∷ k ∷ []) AssignIndex o a b
-  compute_index_row o vs = no_node w h
+  abbrev pub compute_name_row : BinaryOperator → List ℕ → List Value → Made H
+  compute_name_row o x vs = computed O w h (ComputeName o x) (AssignName x) 0 o vs
+
+  abbrev pub compute_member_row : BinaryOperator → List ℕ → List Value → Made H
+  compute_member_row o k vs = computed O w h (ComputeMember o k) (AssignMember k) 1 o vs
+
+  abbrev pub compute_index_row : BinaryOperator → List Value → Made H
+  compute_index_row o vs = computed O w h (ComputeIndex o) AssignIndex 2 o vs

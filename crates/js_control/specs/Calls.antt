@@ -1,64 +1,64 @@
--- Calls and `new` (ECMA-262 edition 5.1, 11.2.2, 11.2.3). Where the callee is a member, one step reads it, and then the arguments are evaluated.
--- What a native wants as a text or a number is converted before the call, `this` first; any other callee's arguments stay as they are.
-use Rattle.std.specs.Prelude.{ℕ, suc, Bool, true, false, List, [], ◌∷◌, Option, Some, None, if◌then◌else◌}
-use Rattle.js_value.specs.declared.value.NativeId.{NativeId}
+-- Calls and `new` (ECMA-262 edition 5.1, 11.2.2, 11.2.3). Where the callee is a member, one step
+-- reads it, and then the arguments are evaluated. What a native wants as a text or a number is
+-- converted before the call, `this` first; any other callee's arguments stay as they are.
+use Rattle.std.specs.Prelude.{ℕ, true, false, List, [], ◌∷◌, drop}
 use Rattle.js_value.specs.declared.value.Value.{Value}
 use Rattle.js_value.specs.declared.value.Value.TheVariants as value
-use Rattle.js_ops.specs.Convert.{is_missing, to_text}
-use Rattle.js_ops.specs.declared.equality.Hint.{Hint}
+use Rattle.js_ops.specs.Convert.{to_text}
 use Rattle.js_heap.specs.World.{World}
+use Rattle.js_host.specs.declared.call.NativeCall.{NativeCall}
 use Rattle.js_reference.specs.Callables.{native_of}
-use Rattle.js_reference.specs.declared.error.ErrorName.TheVariants.{TypeError}
+use Rattle.js_reference.specs.Own.{OwnProperties}
 use Rattle.js_reference.specs.Properties.{read}
 use Rattle.js_reference.specs.Puts.{window}
-use Rattle.js_term.specs.Operands.{listed}
-use Rattle.js_term.specs.Place.{Place}
-use Rattle.js_term.specs.Table.{Step}
-use Rattle.js_term.specs.Term.{Term}
 use Rattle.js_tree.specs.Trees.{Tree}
+use Rattle.js_control.specs.Made.{Made}
 use Rattle.js_control.specs.Rows.ExprRow.{CallIndex, CallOn, New}
-use Rattle.js_control.specs.Setting.{Setting}
-use Rattle.js_control.specs.Steps.{goes_on, no_node, over, throws}
-use Rattle.js_control.specs.Conversions.{key_wanted, prepared}
+use Rattle.js_control.specs.Setting.{HostFacts}
+use Rattle.js_control.specs.Steps.{goes_on, operand_at}
+use Rattle.js_control.specs.Conversions.{hints, keyed, prepared}
+use Rattle.js_control.specs.declared.wants.Wants.TheVariants as wants
 
-module _ {R H : Type 0} (S : Setting R H) where
-  -- what is wanted at each place, of `this` and then of the arguments
-  abbrev pub wants_of : Option NativeId → (construct : Bool) → ℕ → Option Hint
-  wants_of None construct i = None
-  wants_of (Some n) construct i = S.wants n construct i
+-- a call on `this`, and a `new`
+abbrev pub call_with : (this : Value) → List Value → NativeCall
+call_with this vs = record { construct = false; this = this; args = vs }
 
-module _ {R H : Type 0} (S : Setting R H) (p : Place) (w : World) (h : H) where
-  -- a call on `this` of these arguments
-  abbrev pub call_on : (callee this : Value) → List Value → Step R H
-  call_on f this vs =
-      prepared S p w h (f ∷ []) CallOn (wants_of S (native_of w f) false) (this ∷ vs)
-      (S.call p w h (record { callee = f; construct = false; this = this; arguments = vs }))
+abbrev pub new_with : List Value → NativeCall
+new_with vs = record { construct = true; this = value.Undefined; args = vs }
 
-  abbrev pub call_on_row : List Value → Step R H
-  call_on_row (f ∷ this ∷ vs) = call_on f this vs
-  call_on_row vs = no_node w h
+-- what is no member is called on the window
+abbrev pub on_window : List Value → List Value
+on_window [] = []
+on_window (f ∷ vs) = f ∷ value.Ref window ∷ vs
 
-  -- what is no member is called on the window
-  abbrev pub call_row : List Value → Step R H
-  call_row (f ∷ vs) = call_on f (value.Ref window) vs
-  call_row vs = no_node w h
+-- behind the step that reads the function
+abbrev pub call_node : {H : Type 0} → List Tree → (base callee : Value) → World → H → Made H
+call_node xs e f w h = Made.GoesOn CallOn (f ∷ e ∷ []) xs w h
 
-  abbrev pub call_node : Tree → (base callee : Value) → Term R
-  call_node xs e f = over S p CallOn (f ∷ e ∷ []) (listed xs)
+module _ {H : Type 0} (F : HostFacts H) (w : World) (h : H) where
+  abbrev pub call_on_row : List Value → Made H
+  call_on_row vs =
+      let f : Value = operand_at vs 0 in
+      prepared F.own w h CallOn (hints F.wants (wants.Call (native_of w f))) vs
+      (Made.Calls f (call_with (operand_at vs 1) (drop 2 vs)) w h)
 
+  abbrev pub call_row : List Value → Made H
+  call_row vs = call_on_row (on_window vs)
+
+  abbrev pub new_row : List Value → Made H
+  new_row vs =
+      let f : Value = operand_at vs 0 in
+      prepared F.own w h New (hints F.wants (wants.New (native_of w f))) vs
+      (Made.Calls f (new_with (drop 1 vs)) w h)
+
+module _ {H : Type 0} (O : OwnProperties H) (w : World) (h : H) where
   -- the step that reads the function
-  abbrev pub call_member_row : List ℕ → Tree → List Value → Step R H
-  call_member_row k xs (e ∷ []) = goes_on (call_node xs e) (read S.own w h e k)
-  call_member_row k xs vs = no_node w h
+  abbrev pub call_member_row : List ℕ → List Tree → List Value → Made H
+  call_member_row k xs vs =
+      let e : Value = operand_at vs 0 in goes_on (call_node xs e) (read O w h e k)
 
-  abbrev pub call_index_row : Tree → List Value → Step R H
-  call_index_row xs (e ∷ k ∷ []) =
-      if is_missing e then throws TypeError w h
-      else prepared S p w h (e ∷ []) (CallIndex xs) key_wanted (k ∷ []) (goes_on (call_node xs e) (read S.own w h e (to_text k)))
-  call_index_row xs vs = no_node w h
-
-  abbrev pub new_row : List Value → Step R H
-  new_row (f ∷ vs) =
-      prepared S p w h (f ∷ []) New (λ i. wants_of S (native_of w f) true (suc i)) vs
-      (S.call p w h (record { callee = f; construct = true; this = value.Undefined; arguments = vs }))
-  new_row vs = no_node w h
+  abbrev pub call_index_row : List Tree → List Value → Made H
+  call_index_row xs vs =
+      let e : Value = operand_at vs 0 in
+      keyed O w h (CallIndex xs) vs
+      (goes_on (call_node xs e) (read O w h e (to_text (operand_at vs 1))))

@@ -1,82 +1,39 @@
 -- Operators in front of an operand and between two (ECMA-262 edition 5.1, 11.4 to 11.10).
-use Rattle.std.specs.Prelude.{ℕ, true, not, List, [], ◌∷◌, Option, Some, None, codes, neg_ℤ, pos, ◌-ℤ◌, if◌then◌else◌}
-use Rattle.std.specs.Option.{option_map}
-use Rattle.js_value.specs.Image.{image, to_boolean}
-use Rattle.js_value.specs.Numeral.{negated}
-use Rattle.js_value.specs.declared.number.Num.{Num}
-use Rattle.js_value.specs.declared.number.Num.TheVariants.{Whole}
+use Rattle.std.specs.Prelude.{ℕ, List, Option, None}
 use Rattle.js_value.specs.declared.value.Value.{Value}
-use Rattle.js_value.specs.declared.value.Value.TheVariants as value
-use Rattle.js_ops.specs.Convert.{to_number}
-use Rattle.js_ops.specs.Numbers.{to_int32}
 use Rattle.js_ops.specs.declared.equality.Hint.{Hint}
-use Rattle.js_ops.specs.declared.equality.Hint.TheVariants as hint
 use Rattle.js_heap.specs.World.{World}
-use Rattle.js_reference.specs.Callables.{is_callable}
-use Rattle.js_reference.specs.Errors.{Answer, or_throw}
 use Rattle.js_reference.specs.Errors.Answer.{Returns}
-use Rattle.js_reference.specs.declared.error.ErrorName.TheVariants.{RangeError}
 use Rattle.js_reference.specs.Names.{name_value}
+use Rattle.js_reference.specs.Own.{OwnProperties}
+use Rattle.js_operations.specs.Operations.{operate, operation, operation_wants}
+use Rattle.js_operations.specs.Unary.{type_of_option, unary_operate, unary_wants}
 use Rattle.js_term.specs.declared.context.Context.{Context}
-use Rattle.js_term.specs.Place.{Place}
-use Rattle.js_term.specs.Table.{Step}
 use Rattle.js_tree.specs.declared.production.BinaryOperator.{BinaryOperator}
 use Rattle.js_tree.specs.declared.production.UnaryOperator.{UnaryOperator}
-use Rattle.js_tree.specs.declared.production.UnaryOperator.TheVariants as unary
+use Rattle.js_control.specs.Made.{Made}
 use Rattle.js_control.specs.Rows.ExprRow.{Binary, Unary}
-use Rattle.js_control.specs.Setting.{Setting}
-use Rattle.js_control.specs.Steps.{gives, no_node}
-use Rattle.js_control.specs.Conversions.{prepared}
-use Rattle.js_control.specs.Operations.{operate, operation, operation_wants}
+use Rattle.js_control.specs.Steps.{gives, operand_at}
+use Rattle.js_control.specs.Conversions.{prepared, wants_at}
 
--- the type of a value that is no wrap, in the words of 11.4.3
-abbrev pub image_type : World → Value → List ℕ
-image_type w value.Undefined = codes "undefined"
-image_type w value.Null = codes "object"
-image_type w (value.Bool b) = codes "boolean"
-image_type w (value.Num n) = codes "number"
-image_type w (value.Text t) = codes "string"
-image_type w v = if is_callable w v then codes "function" else codes "object"
+-- the left operand, at this place, is converted first
+abbrev pub operator_wants : ℕ → BinaryOperator → (left right : Value) → ℕ → Option Hint
+operator_wants n o a b =
+    let wants : ℕ → Option Hint = operation_wants (operation o) a b in wants_at n (wants 0) (wants 1)
 
-abbrev pub type_of : World → Value → Value
-type_of w v = value.Text (image_type w (image v))
+module _ {H : Type 0} (O : OwnProperties H) (c : Context) (w : World) (h : H) where
+  abbrev pub type_of_name_row : List ℕ → Made H
+  type_of_name_row x = gives (Returns (type_of_option w (name_value O w h c.scope x)) w h)
 
--- an unbound name has the type of undefined
-abbrev pub type_of_option : World → Option Value → Value
-type_of_option w (Some v) = type_of w v
-type_of_option w None = value.Text (codes "undefined")
+module _ {H : Type 0} (O : OwnProperties H) (w : World) (h : H) where
+  abbrev pub unary_row : UnaryOperator → List Value → Made H
+  unary_row o vs =
+      prepared O w h (Unary o) (wants_at 0 (unary_wants o 0) None) vs
+      (gives (unary_operate w h o (operand_at vs 0)))
 
--- `~` (11.4.8)
-abbrev pub complement : Num → Value
-complement n = value.Num (Whole (neg_ℤ (to_int32 n) -ℤ pos 1))
-
--- `+`, `-` and `~` convert their operand to a number
-abbrev pub unary_wants : UnaryOperator → ℕ → Option Hint
-unary_wants unary.Plus i = Some hint.Number
-unary_wants unary.Minus i = Some hint.Number
-unary_wants unary.BitNot i = Some hint.Number
-unary_wants o i = None
-
--- what an operator gives of its converted operand; `delete` of what is no property is true (11.4.1, step 2)
-abbrev pub unary_operate : {H : Type 0} → World → H → UnaryOperator → Value → Answer H
-unary_operate w h unary.Delete v = Returns (value.Bool true) w h
-unary_operate w h unary.Void v = Returns value.Undefined w h
-unary_operate w h unary.TypeOf v = Returns (type_of w v) w h
-unary_operate w h unary.Plus v = or_throw RangeError w h (option_map value.Num (to_number v))
-unary_operate w h unary.Minus v = or_throw RangeError w h (option_map (λ n. value.Num (negated n)) (to_number v))
-unary_operate w h unary.BitNot v = or_throw RangeError w h (option_map complement (to_number v))
-unary_operate w h unary.Not v = Returns (value.Bool (not (to_boolean v))) w h
-
-module _ {R H : Type 0} (S : Setting R H) (p : Place) (c : Context) (w : World) (h : H) where
-  abbrev pub type_of_name_row : List ℕ → Step R H
-  type_of_name_row x = gives (Returns (type_of_option w (name_value S.own w h c.scope x)) w h)
-
-  abbrev pub unary_row : UnaryOperator → List Value → Step R H
-  unary_row o (v ∷ []) = prepared S p w h [] (Unary o) (unary_wants o) (v ∷ []) (gives (unary_operate w h o v))
-  unary_row o vs = no_node w h
-
-  -- the left operand is converted first
-  abbrev pub binary_row : BinaryOperator → List Value → Step R H
-  binary_row o (a ∷ b ∷ []) =
-      prepared S p w h [] (Binary o) (operation_wants (operation o) a b) (a ∷ b ∷ []) (gives (operate S.own w h (operation o) a b))
-  binary_row o vs = no_node w h
+  abbrev pub binary_row : BinaryOperator → List Value → Made H
+  binary_row o vs =
+      let a : Value = operand_at vs 0 in
+      let b : Value = operand_at vs 1 in
+      prepared O w h (Binary o) (operator_wants 0 o a b) vs
+      (gives (operate O w h (operation o) a b))

@@ -1,37 +1,32 @@
--- The rows of expressions (ECMA-262 edition 5.1, clause 11): a node with what its text says, in one of its phases. What a node evaluates later its
--- row has as trees; what it has evaluated are its operands, which are listed here behind each row. A row holds no value.
-use Rattle.std.specs.Prelude.{ℕ, List}
+-- The rows of expressions (ECMA-262 edition 5.1, clause 11): a node with what its text says, in one of
+-- its phases. What a node evaluates later its row has as trees; what it has evaluated are its
+-- operands, which are listed here behind each row. A row holds no value.
+use Rattle.std.specs.Prelude.{ℕ, List, Bool}
 use Rattle.js_ops.specs.declared.equality.Hint.{Hint}
 use Rattle.js_tree.specs.Trees.{Tree}
 use Rattle.js_tree.specs.declared.production.BinaryOperator.{BinaryOperator}
 use Rattle.js_tree.specs.declared.production.UnaryOperator.{UnaryOperator}
 use Rattle.js_tree.specs.declared.production.UpdateOperator.{UpdateOperator}
-
--- the methods that give an object's primitive value (8.12.8)
-pub data Method : Type 0 where
-  ValueOf : Method
-  ToText : Method
-
--- what `++` and `--` give: the new number in front of the target, and the old one behind it
-pub data Side : Type 0 where
-  Before : Side
-  Behind : Side
+use Rattle.js_control.specs.declared.row.Method.{Method}
+use Rattle.js_control.specs.declared.row.Side.{Side}
 
 pub data ExprRow : Type 0 where
-  -- 11.1: no operands; elements that are there; values of the entries; 13: none
+  -- 11.1: no operands; of an array, by which of its elements are there, those; of an object, by its
+  -- entries' keys, their values; 13: none
   This : ExprRow
   Name : List ℕ → ExprRow
-  Array : (elements : Tree) → ExprRow
-  Object : (entries : Tree) → ExprRow
+  Array : (there : List Bool) → ExprRow
+  Object : (keys : List (List ℕ)) → ExprRow
   Function : ExprRow
   -- 11.2.1: the base; the base and the key
   Member : List ℕ → ExprRow
   Index : ExprRow
-  -- 11.2.3: the callee and the arguments; the callee, `this` and the arguments; the base of the callee; its base and key
+  -- 11.2.3: the callee and the arguments; the callee, `this` and the arguments; the base of the
+  -- callee; its base and key
   Call : ExprRow
   CallOn : ExprRow
-  CallMember : List ℕ → (arguments : Tree) → ExprRow
-  CallIndex : (arguments : Tree) → ExprRow
+  CallMember : List ℕ → (arguments : List Tree) → ExprRow
+  CallIndex : (arguments : List Tree) → ExprRow
   -- 11.2.2: the constructor and the arguments
   New : ExprRow
   -- 11.13.1: the value; the target's base and the value; its base, its key and the value

@@ -1,7 +1,9 @@
 pub mod Row
 pub mod Outside
+pub mod Forms
 pub mod Syntax
 pub mod Calls
 pub mod Rows
+pub mod Hosted
 pub mod Runs
 pub mod inner

@@ -10,7 +10,7 @@ use Rattle.js_term.specs.Table.{Step, Table}
 use Rattle.js_term.specs.Table.Step.{Gives}
 use Rattle.js_term.specs.Term.{Terms}
 use Rattle.js_term.specs.Term.Term.{Val}
-use Rattle.js_control.specs.Make.{early_expr, expr_is_early, make_expr, meets_expr}
+use Rattle.js_control.specs.Make.{expr_is_early, make_early, make_expr, meets_expr}
 use Rattle.js_stmt.specs.Make.{inner_stmt, make_stmt, meets_stmt}
 use Rattle.js_rows.specs.Calls.{for_expressions, for_statements}
 use Rattle.js_rows.specs.Outside.{Outside}
@@ -29,17 +29,17 @@ module _ {F H : Type 0} (O : Outside F H) where
 
   module _ (p : Place) (c : Context) (w : World) (h : H) where
     abbrev pub early_row : Row F → List Value → Terms (Placed (Row F)) → Step (Placed (Row F)) H
-    early_row (Expression r) vs ts = early_expr (for_expressions O) p c w h r vs ts
+    early_row (Expression r) vs ts = make_early (for_expressions O) p c w h r vs ts
     early_row r vs ts = Gives (Val value.Undefined) w h
 
     abbrev pub make_row : Row F → List Value → Step (Placed (Row F)) H
     make_row (Expression r) vs = make_expr (for_expressions O) p c w h r vs
-    make_row (Statement r) vs = make_stmt (for_statements O) p c w h r vs
+    make_row (Statement r) vs = make_stmt for_statements O.own p c w h r vs
     make_row (Form r) vs = O.make p c w h r vs
 
     abbrev pub meets_row : Row F → Completion → Step (Placed (Row F)) H
     meets_row (Expression r) k = meets_expr w h k
-    meets_row (Statement r) k = meets_stmt (for_statements O) p c w h r k
+    meets_row (Statement r) k = meets_stmt for_statements O.own p c w h r k
     meets_row (Form r) k = O.meets p c w h r k
 
   abbrev pub all_rows : Table (Placed (Row F)) H

@@ -1,5 +1,6 @@
 pub mod Rows
 pub mod Setting
+pub mod Made
 pub mod Steps
 pub mod Variables
 pub mod Loops
@@ -12,3 +13,6 @@ pub mod Calls
 pub mod Programs
 pub mod Syntax
 pub mod Make
+pub mod CodeRows
+pub mod Parts
+pub mod NodeRows

@@ -1,5 +1,6 @@
--- `try` (ECMA-262 edition 5.1, 12.14). A finished block or catch costs a step, which is the one into `finally` where there is one; a throw out of the
--- block enters the catch in a scope of its own; any other end is kept over `finally`, and brought back behind it. A completion out of `finally` takes
+-- `try` (ECMA-262 edition 5.1, 12.14). A finished block or catch costs a step, which is the one into
+-- `finally` where there is one; a throw out of the block enters the catch in a scope of its own; any
+-- other end is kept over `finally`, and brought back behind it. A completion out of `finally` takes
 -- the place of what is kept.
 use Rattle.std.specs.Prelude.{ℕ, List, [], Option, Some, None, length, if◌then◌else◌}
 use Rattle.js_value.specs.declared.value.Value.{Value}
@@ -10,15 +11,13 @@ use Rattle.js_reference.specs.declared.error.ErrorName.TheVariants.{RangeError}
 use Rattle.js_reference.specs.Room.{scopes_fit}
 use Rattle.js_term.specs.declared.completion.Completion.{Completion}
 use Rattle.js_term.specs.declared.completion.Completion.TheVariants.{Throw}
-use Rattle.js_term.specs.declared.context.Context.{Context}
 use Rattle.js_term.specs.Operands.{listed}
-use Rattle.js_term.specs.Place.{Place}
-use Rattle.js_term.specs.Table.{Step}
 use Rattle.js_tree.specs.Trees.{Tree}
 use Rattle.js_tree.specs.Trees.Tree.{Missing, Word}
+use Rattle.js_stmt.specs.Made.{Made, Progress, made}
+use Rattle.js_stmt.specs.Made.Progress.{Completes, Finishes, GoesOn}
 use Rattle.js_stmt.specs.Rows.StmtRow.{Catch, Finally}
-use Rattle.js_stmt.specs.Setting.{Setting}
-use Rattle.js_stmt.specs.Steps.{completes, enters, finishes, throws}
+use Rattle.js_stmt.specs.Steps.{throws}
 
 -- the scope that is made next
 abbrev pub next_scope : World → ScopeId
@@ -28,29 +27,35 @@ next_scope w = record { number = length w.scopes }
 abbrev pub with_caught : World → Option ScopeId → (name : List ℕ) → Value → World
 with_caught w parent x v = declare (with_scope w parent) (next_scope w) x v
 
-module _ {R H : Type 0} (S : Setting R H) (p : Place) (c : Context) (w : World) (h : H) where
-  -- what is kept is brought back; where nothing is, the statement is finished
-  abbrev pub finally_row : Option Completion → Step R H
-  finally_row (Some k) = completes k w h
-  finally_row None = finishes w h
+-- what is kept is brought back; where nothing is, the statement is finished
+abbrev pub finally_row : (kept : Option Completion) → Progress
+finally_row (Some k) = Completes k
+finally_row None = Finishes
 
-  -- into `finally`, or else the end at once
-  abbrev pub into_finally : (finally : Tree) → Option Completion → Step R H
-  into_finally Missing kept = finally_row kept
-  into_finally ss kept = enters S p w h (Finally kept) [] (listed ss)
+-- into `finally`, or else the end at once
+abbrev pub into_finally : (finally : Tree) → (kept : Option Completion) → Progress
+into_finally Missing kept = finally_row kept
+into_finally ss kept = GoesOn (Finally kept) [] (listed ss)
 
-  -- the block, or the catch, is finished
-  abbrev pub try_row : (finally : Tree) → Step R H
-  try_row f = into_finally f None
+-- the block, or the catch, is finished
+abbrev pub try_row : (finally : Tree) → Progress
+try_row f = into_finally f None
 
-  abbrev pub into_catch : (name : List ℕ) → (statements finally : Tree) → Value → Step R H
+abbrev pub catch_meets : (finally : Tree) → Completion → Progress
+catch_meets f k = into_finally f (Some k)
+
+module _ {H : Type 0} (s : Option ScopeId) (w : World) (h : H) where
+  abbrev pub into_catch : (name : List ℕ) → (statements finally : Tree) → Value → Made H
   into_catch x ss f v =
-      if scopes_fit w 1 then enters S p (with_caught w c.scope x v) h (Catch (next_scope w) f) [] (listed ss)
+      if scopes_fit w 1
+      then made (GoesOn (Catch (next_scope w) f) [] (listed ss)) (with_caught w s x v) h
       else throws RangeError w h
 
-  abbrev pub try_meets : (catch finally : Tree) → Completion → Step R H
-  try_meets (Tree.Cons (Word x) (Tree.Cons ss r)) f (Throw v) = into_catch x ss f v
-  try_meets k f e = into_finally f (Some e)
+  -- a throw out of the block
+  abbrev pub throw_meets : (catch finally : Tree) → Value → Made H
+  throw_meets (Tree.Cons (Word x) (Tree.Cons ss r)) f v = into_catch x ss f v
+  throw_meets k f v = made (into_finally f (Some (Throw v))) w h
 
-  abbrev pub catch_meets : (finally : Tree) → Completion → Step R H
-  catch_meets f k = into_finally f (Some k)
+  abbrev pub try_meets : (catch finally : Tree) → Completion → Made H
+  try_meets k f (Throw v) = throw_meets k f v
+  try_meets k f e = made (into_finally f (Some e)) w h

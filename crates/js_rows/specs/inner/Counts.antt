@@ -15,7 +15,7 @@ use Rattle.js_term.specs.Table.{Table}
 use Rattle.js_term.specs.Term.Term.{Stop, Val}
 use Rattle.js_term.specs.declared.completion.Completion.TheVariants.{Throw}
 use Rattle.js_tree.specs.Trees.{Tree}
-use Rattle.js_rows.specs.Calls.{for_statements}
+use Rattle.js_rows.specs.Outside.{Outside}
 use Rattle.js_rows.specs.Row.{Row}
 use Rattle.js_rows.specs.Rows.{all_rows}
 use Rattle.js_rows.specs.Runs.{steps}
@@ -32,7 +32,9 @@ world_of (Returns v w h) = w
 world_of (Throws v w h) = w
 
 abbrev pub declared : World
-declared = world_of (declare_program (for_statements (small function_at)) 0 declarations start [])
+declared =
+    let outside : Outside NoForm Lines = small function_at in
+    world_of (declare_program outside.own outside.handler 0 declarations start [])
 
 -- the lines where a statement is finished after so many steps, and none before and behind
 abbrev pub lines_if_finished : Contraction (Placed (Row NoForm)) Lines → Option Lines

@@ -52,9 +52,10 @@ small functions = record {
   own = no_properties;
   wants = λ n construct i. None;
   asks = λ n. false;
+  refuses = λ n construct. construct;
   handler = λ w h x v. (w, h);
   function = λ x u. functions u;
-  native = λ p w h n q. Gives (Val value.Undefined) w (h ++ q.arguments ∷ []);
+  native = λ w h n q. Gives (Val value.Undefined) w (h ++ q.args ∷ []);
   make = λ p c w h f vs. Gives (Val value.Undefined) w h;
   meets = λ p c w h f k. Gives (Stop k) w h;
 }

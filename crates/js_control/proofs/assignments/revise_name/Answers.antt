@@ -1,0 +1,27 @@
+use Rattle.std.proofs.Common.{◌∷◌, [], List, map}
+use Rattle.js_value.specs.declared.value.Value.{Value}
+use Rattle.js_reference.specs.Answers.{answer}
+use Rattle.js_reference.specs.Hosted.{hosted}
+use Rattle.js_reference.specs.Names.{read_name}
+use Rattle.js_reference.specs.Properties.{read}
+use Rattle.js_tree.specs.TreeAt.{tree_at}
+use Rattle.js_control.proofs.Guards.{next_made}
+use Rattle.js_control.specs.Calls.{call_node}
+use Rattle.js_control.specs.ExprMoves.{later_row, made_of}
+use Rattle.js_control.specs.Rows.{ExprRow}
+use Rattle.js_control.specs.Steps.{goes_on, operand_at, with_value}
+use Rattle.js_control.specs.declared.row.Phase.TheVariants as phase
+use Rattle.js_control.proofs.assignments.revise_name.Goals as goal
+
+pub returns-clause-value : goal.returns-clause-value
+returns-clause-value g c = λ a o.
+    let row : ExprRow = ExprRow.ReviseName o c.args.name.now (tree_at a c.args.right) in
+    let vs : List Value = c.args.operands.now.done in
+    let w = c.read_variable.new.heap in
+    let h = c.args.host.now in
+    let op = read_name (hosted g.H.Host.rows) c.args.heap.now h c.args.at.now.scope c.args.name.now in
+    next_made c.read_before.result (goes_on (with_value (later_row row phase.Compute) vs (tree_at a c.args.right ∷ []))) op (answer c.in_ok-answered.answered w h)
+    (λ m. made_of a row c.read_before.new.operands m w h) c.in_ok-answered.ensures.value (c.read_before.ensures.value a row w h)
+
+pub returns-clause-there : goal.returns-clause-there
+returns-clause-there g c = c.read_before.ensures.there c.read_variable.new.heap (g.H.Host.names.host c.args.host.now) c.in_ok-answered.ensures.there

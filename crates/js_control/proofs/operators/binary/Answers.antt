@@ -1,0 +1,24 @@
+use Rattle.std.proofs.Common.{◌∙◌}
+use Rattle.js_operations.specs.Operations.{operate, operation}
+use Rattle.js_reference.specs.Hosted.{hosted}
+use Rattle.js_control.proofs.Guards.{given_of}
+use Rattle.js_control.specs.Conversions.{prepared}
+use Rattle.js_control.specs.Operators.{operator_wants}
+use Rattle.js_control.specs.Rows.{ExprRow}
+use Rattle.js_control.specs.Steps.{gives, operand_at}
+use Rattle.js_control.proofs.operators.binary.Goals as goal
+
+pub returns-in-Gives-clause-value : goal.returns-in-Gives-clause-value
+returns-in-Gives-clause-value g c = λ a.
+    let O = hosted g.H.Host.rows in
+    let w = c.args.heap.now in
+    let h = c.args.host.now in
+    let e = c.args.operands.now in
+    let vs = e.done in
+    let e' = c.operated.new.operands in
+    let w' = c.operated.new.heap in
+    let o = c.args.operator in
+    let op = operate O w h (operation o) (operand_at vs 0) (operand_at vs 1) in
+    let wants = operator_wants 0 o (operand_at vs 0) (operand_at vs 1) in
+    let given = given_of (λ r made. prepared O w h r wants vs made) op e e' w' h c.in_ok-moved.field-0 c.in-Gives.answered c.in-Gives.is c.in_ok-moved.ensures.value in
+    given.made (ExprRow.Binary o) gives ∙ c.given.ensures.made a (ExprRow.Binary o) e' w' h

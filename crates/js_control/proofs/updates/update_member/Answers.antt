@@ -1,0 +1,25 @@
+use Rattle.std.proofs.Common.{[], List}
+use Rattle.js_value.specs.declared.value.Value.{Value}
+use Rattle.js_reference.specs.Answers.{answer}
+use Rattle.js_reference.specs.Hosted.{hosted}
+use Rattle.js_reference.specs.Properties.{read}
+use Rattle.js_control.proofs.Guards.{next_made}
+use Rattle.js_control.specs.ExprMoves.{later_row, made_of}
+use Rattle.js_control.specs.Rows.{ExprRow}
+use Rattle.js_control.specs.Steps.{goes_on, with_value}
+use Rattle.js_control.specs.Steps.{operand_at}
+use Rattle.js_control.specs.declared.row.Phase.TheVariants as phase
+use Rattle.js_control.proofs.updates.update_member.Goals as goal
+
+pub returns-clause-value : goal.returns-clause-value
+returns-clause-value g c = λ a u s.
+    let row : ExprRow = ExprRow.UpdateMember u s c.args.key.now in
+    let vs : List Value = c.args.operands.now.done in
+    let w = c.read_base.new.heap in
+    let h = c.args.host.now in
+    let op = read (hosted g.H.Host.rows) c.args.heap.now h (operand_at vs 0) c.args.key.now in
+    next_made c.read_target.result (goes_on (with_value (later_row row phase.Store) vs [])) op (answer c.in_ok-answered.answered w h)
+    (λ m. made_of a row c.read_target.new.operands m w h) c.in_ok-answered.ensures.value (c.read_target.ensures.value a row w h)
+
+pub returns-clause-there : goal.returns-clause-there
+returns-clause-there g c = c.read_target.ensures.there c.read_base.new.heap (g.H.Host.names.host c.args.host.now) c.in_ok-answered.ensures.there

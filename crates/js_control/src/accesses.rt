@@ -1,0 +1,126 @@
+// Names and properties that are read and deleted.
+ghost use Rattle.std.specs.Prelude.{◌≡◌, [], IfOk, OnOk, length};
+ghost use Rattle.std.specs.Option.{option_map};
+ghost use Rattle.js_heap.specs.Chains.{IsBelow};
+ghost use Rattle.js_heap.specs.Scopes.{scope_number};
+ghost use Rattle.js_host.specs.There.{AreThere};
+ghost use Rattle.js_reference.specs.Hosted.{hosted};
+ghost use Rattle.js_reference.specs.Later.{IsLater};
+ghost use Rattle.js_tree.specs.Arena.{Arena};
+ghost use Rattle.js_control.specs.Accesses as rows;
+ghost use Rattle.js_control.specs.ExprMoves.{made_of, move_names, operand_names};
+ghost use Rattle.js_control.specs.Rows.{ExprRow as Row};
+
+use crate::ExprMove;
+use crate::keys::{delete_keyed, read_keyed};
+use crate::moves::given;
+use crate::reached::Reached;
+use crate::references::{delete_base, read_base, read_variable};
+use js_heap::Heap;
+use js_host::Host;
+use js_term::{Context, Operands};
+use mug_text::{JText, NoMemory};
+use std::alloc::Global;
+
+/// A name (ECMA-262 edition 5.1, 11.1.2).
+pub(crate) fn name<H: Host>(
+    alloc: Global,
+    name: &JText,
+    at: &Context,
+    operands: &Operands,
+    heap: &mut Heap,
+    host: &H,
+) -> Result<ExprMove, NoMemory>
+    requires there { AreThere heap.old (operand_names operands.now (H.names.host host.now)) }
+    requires scope { IsBelow (length heap.old.scopes) (option_map scope_number at.now.scope) }
+    ensures value { (a : Arena) (r : Row) → IfOk result (λ m. rows.name_row (hosted H.rows) at.now
+        heap.old host.now name.now ≡ made_of a r operands.now m heap.new host.now) }
+    ensures there { IfOk result (λ m.
+        AreThere heap.new (move_names m (operand_names operands.now (H.names.host host.now)))) }
+    ensures more { OnOk result (IsLater heap.old heap.new) }
+{
+    let answered = read_variable(alloc, operands, at.scope, name, heap, host)?;
+    Ok(given::<H>(answered))
+}
+
+/// `e.k` (11.2.1).
+pub(crate) fn member<H: Host>(
+    alloc: Global,
+    key: &JText,
+    operands: &Operands,
+    heap: &mut Heap,
+    host: &H,
+) -> Result<ExprMove, NoMemory>
+    requires { AreThere heap.old (operand_names operands.now (H.names.host host.now)) }
+    ensures value { (a : Arena) (r : Row) → IfOk result (λ m. rows.member_row (hosted H.rows)
+        heap.old host.now key.now operands.now.done
+        ≡ made_of a r operands.now m heap.new host.now) }
+    ensures there { IfOk result (λ m.
+        AreThere heap.new (move_names m (operand_names operands.now (H.names.host host.now)))) }
+    ensures more { OnOk result (IsLater heap.old heap.new) }
+{
+    let answered = read_base(alloc, operands, key, heap, host)?;
+    Ok(given::<H>(answered))
+}
+
+/// `e[k]` (11.2.1).
+pub(crate) fn index<H: Host>(
+    alloc: Global,
+    operands: &mut Operands,
+    heap: &mut Heap,
+    host: &H,
+) -> Result<ExprMove, NoMemory>
+    requires there { AreThere heap.old (operand_names operands.old (H.names.host host.now)) }
+    requires coming { operands.old.todo ≡ [] }
+    ensures value { (a : Arena) → IfOk result (λ m. rows.index_row (hosted H.rows) heap.old
+        host.now operands.old.done ≡ made_of a Row.Index operands.new m heap.new host.now) }
+    ensures there { IfOk result (λ m.
+        AreThere heap.new (move_names m (operand_names operands.new (H.names.host host.now)))) }
+    ensures more { OnOk result (IsLater heap.old heap.new) }
+{
+    match read_keyed(alloc, operands, heap, host)? {
+        Reached::Moves(moved) => Ok(moved),
+        Reached::Gives(answered) => Ok(given::<H>(answered)),
+    }
+}
+
+/// `delete e.k` (11.4.1).
+pub(crate) fn delete_member<H: Host>(
+    alloc: Global,
+    key: &JText,
+    operands: &Operands,
+    heap: &mut Heap,
+    host: &H,
+) -> Result<ExprMove, NoMemory>
+    requires { AreThere heap.old (operand_names operands.now (H.names.host host.now)) }
+    ensures value { (a : Arena) (r : Row) → IfOk result (λ m. rows.delete_member_row
+        (hosted H.rows) heap.old host.now key.now operands.now.done
+        ≡ made_of a r operands.now m heap.new host.now) }
+    ensures there { IfOk result (λ m.
+        AreThere heap.new (move_names m (operand_names operands.now (H.names.host host.now)))) }
+    ensures more { OnOk result (IsLater heap.old heap.new) }
+{
+    let answered = delete_base(alloc, operands, key, heap, host)?;
+    Ok(given::<H>(answered))
+}
+
+/// `delete e[k]` (11.4.1).
+pub(crate) fn delete_index<H: Host>(
+    alloc: Global,
+    operands: &mut Operands,
+    heap: &mut Heap,
+    host: &H,
+) -> Result<ExprMove, NoMemory>
+    requires there { AreThere heap.old (operand_names operands.old (H.names.host host.now)) }
+    requires coming { operands.old.todo ≡ [] }
+    ensures value { (a : Arena) → IfOk result (λ m. rows.delete_index_row (hosted H.rows) heap.old
+        host.now operands.old.done ≡ made_of a Row.DeleteIndex operands.new m heap.new host.now) }
+    ensures there { IfOk result (λ m.
+        AreThere heap.new (move_names m (operand_names operands.new (H.names.host host.now)))) }
+    ensures more { OnOk result (IsLater heap.old heap.new) }
+{
+    match delete_keyed(alloc, operands, heap, host)? {
+        Reached::Moves(moved) => Ok(moved),
+        Reached::Gives(answered) => Ok(given::<H>(answered)),
+    }
+}

@@ -1,0 +1,53 @@
+// The steps that nodes make before all of their operands are evaluated.
+ghost use Rattle.std.specs.Prelude.{◌≡◌, [], true, IfOk, OnOk};
+ghost use Rattle.js_host.specs.There.{AreThere};
+ghost use Rattle.js_reference.specs.Hosted.{hosted};
+ghost use Rattle.js_reference.specs.Later.{IsLater};
+ghost use Rattle.js_tree.specs.Arena.{Arena};
+ghost use Rattle.js_control.specs.ExprMoves.{made_of, move_names, operand_names, row_as};
+ghost use Rattle.js_control.specs.ExprMoves.{values_coming};
+ghost use Rattle.js_control.specs.Make as make;
+
+use crate::assignments::{early_index, index_is_early, member_is_early};
+use crate::moves::type_error;
+use crate::{ExprMove, ExprRow};
+use js_heap::Heap;
+use js_host::Host;
+use js_term::Operands;
+use mug_text::NoMemory;
+use std::alloc::Global;
+
+/// Whether a node makes a step before the next of its operands is evaluated.
+pub fn is_early(row: ExprRow<'_>, operands: &Operands) -> bool
+    ensures { (a : Arena) → result ≡ make.expr_is_early (row_as a row.entry) operands.now.done }
+{
+    match row {
+        ExprRow::AssignMember(_) => member_is_early(operands),
+        ExprRow::AssignIndex => index_is_early(operands),
+        _ => false,
+    }
+}
+
+/// That step.
+pub fn early<H: Host>(
+    alloc: Global,
+    row: ExprRow<'_>,
+    operands: &mut Operands,
+    heap: &mut Heap,
+    host: &H,
+) -> Result<ExprMove, NoMemory>
+    requires there { AreThere heap.old (operand_names operands.old (H.names.host host.now)) }
+    requires coming { values_coming operands.old.todo ≡ [] }
+    requires early { (a : Arena) → make.expr_is_early (row_as a row) operands.old.done ≡ true }
+    ensures value { (a : Arena) → IfOk result (λ m. make.early_expr (hosted H.rows) heap.old
+        host.now (row_as a row.entry) operands.old.done
+        ≡ made_of a (row_as a row.entry) operands.new m heap.new host.now) }
+    ensures there { IfOk result (λ m.
+        AreThere heap.new (move_names m (operand_names operands.new (H.names.host host.now)))) }
+    ensures more { OnOk result (IsLater heap.old heap.new) }
+{
+    match row {
+        ExprRow::AssignIndex => early_index(alloc, operands, heap, host),
+        _ => type_error(alloc, operands, heap, host),
+    }
+}

@@ -1,0 +1,5 @@
+pub mod Operations
+pub mod Unary
+pub mod NextNumbers
+pub mod Converted
+pub mod Literals

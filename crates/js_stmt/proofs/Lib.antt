@@ -1,0 +1,9 @@
+pub mod LabelsFound
+pub mod Lists
+pub mod Entries
+pub mod ClauseLists
+pub mod Operated
+pub mod CatchSteps
+pub mod MoveRows
+pub mod NodeParts
+pub mod CallSteps
