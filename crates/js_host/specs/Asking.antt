@@ -10,7 +10,7 @@ use Rattle.js_host.specs.declared.call.HostPut.{HostPut}
 use Rattle.js_host.specs.declared.call.HostPut.TheVariants as host_put
 use Rattle.js_host.specs.declared.call.Input.{Input}
 use Rattle.js_host.specs.declared.call.NativeCall.{NativeCall}
-use Rattle.js_host.specs.declared.call.Order.TheVariants.{Uncaught}
+use Rattle.js_host.specs.declared.call.Order.TheVariants.{Handler, Uncaught}
 use Rattle.js_host.specs.declared.call.Outcome.{Outcome}
 use Rattle.js_host.specs.declared.call.Outcome.TheVariants as outcome
 use Rattle.js_host.specs.declared.call.Resume.{Resume}
@@ -43,7 +43,7 @@ PutsNothing w h p w' h' = Unit {0}
 
 module _ {H D : Type 0} where
   -- Only `native` asks. Where it does, the answer brings a value. Each host takes the throw that
-  -- nothing caught.
+  -- nothing caught, and a function for each property that sets a handler.
   pub record RowsAnswer (R : HostRows H D) : Type 0 where
     pub native : (w : World) (h : H) (id : NativeId) (c : NativeCall)
         → AsksOnly id w h (R.native w h id c).0 (R.native w h id c).1 (R.native w h id c).2
@@ -55,3 +55,5 @@ module _ {H D : Type 0} where
     pub unheld : (w : World) (h : H) (o : ObjId) (x : List ℕ) (v : Value)
         → PutsNothing w h (R.put_own w h o x v).0 (R.put_own w h o x v).1 (R.put_own w h o x v).2
     pub uncaught : (w : World) (h : H) (v : Value) → R.takes w h (Uncaught v) ≡ true
+    pub handler : (w : World) (h : H) (o : ObjId) (x : List ℕ) (v : Value)
+        → R.is_handler w h o x ≡ true → R.takes w h (Handler o x v) ≡ true

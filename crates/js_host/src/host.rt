@@ -115,7 +115,8 @@ pub trait Host: Sized {
     ghost keeps: { RowsKeep names rows };
 
     /// Only `native` asks, and that changes nothing; its answer brings a value. A write to what is
-    /// none of the host's properties changes nothing.
+    /// none of the host's properties changes nothing. A handler is taken for each property that
+    /// sets one.
     ghost answers: { RowsAnswer rows };
 
     /// Each definition commutes with the plain image.

@@ -20,4 +20,5 @@ console_answers = record {
   put_own = λ w h o x v. refl;
   unheld = λ w h o x v. (refl, refl);
   uncaught = λ w h v. refl;
+  handler = λ w h o x v set. set;
 }
