@@ -1,10 +1,4 @@
-pub mod Operands
-pub mod Waiting
-pub mod ArenaRows
 pub mod Storing
-pub mod Guards
-pub mod Texts
 pub mod Windows
-pub mod Objects
 pub mod Requests
 pub mod Pairs

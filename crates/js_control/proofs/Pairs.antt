@@ -5,8 +5,8 @@ use Rattle.js_value.specs.Image.{IsPrimitive}
 use Rattle.js_value.specs.declared.value.Value.{Value}
 use Rattle.js_ops.specs.declared.equality.Hint.{Hint}
 use Rattle.js_operations.specs.Converted.{IsConverted}
-use Rattle.js_control.proofs.Guards.{choice_false, choice_true}
-use Rattle.js_control.specs.Conversions.{wants_at}
+use Rattle.js_operands.proofs.Guards.{choice_false, choice_true}
+use Rattle.js_operands.specs.Conversions.{wants_at}
 
 pub at_first : (n : ℕ) (j k : Option Hint) → wants_at n j k n ≡ j
 at_first n j k = choice_true (n == n) j (if n == suc n then k else None) (eq-eqb n n refl)

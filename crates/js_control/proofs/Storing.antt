@@ -1,5 +1,5 @@
 -- The step of `++` and `--` that writes.
-use Rattle.std.proofs.Common.{◌≡◌, ℕ, Option, Some, None, refl, ap, ◌∙◌}
+use Rattle.std.proofs.Common.{◌≡◌, ℕ, Option, Some, None, refl, ap, ◌∙◌, subst}
 use Rattle.js_value.specs.declared.number.Num.{Num}
 use Rattle.js_value.specs.declared.value.Value.{Value}
 use Rattle.js_value.specs.declared.value.Value.TheVariants as value
@@ -12,13 +12,18 @@ use Rattle.js_reference.specs.declared.error.ErrorName.TheVariants.{RangeError}
 use Rattle.js_operations.specs.NextNumbers.{next_number}
 use Rattle.js_term.specs.Evaluation.{Evaluation}
 use Rattle.js_tree.specs.declared.production.UpdateOperator.{UpdateOperator}
-use Rattle.js_control.specs.Conversions.{prepared, wants_at}
-use Rattle.js_control.specs.Made.{Made}
-use Rattle.js_control.specs.Rows.{ExprRow}
-use Rattle.js_control.specs.Steps.{gives, operand_at}
-use Rattle.js_control.specs.Stored.{AreNext, IsNext, IsReady}
+use Rattle.js_operands.specs.Conversions.{prepared, wants_at}
+use Rattle.js_operands.specs.Made.{Made}
+use Rattle.js_operands.specs.Rows.{ExprRow}
+use Rattle.js_operands.specs.Shapes.{IsShaped}
+use Rattle.js_operands.specs.Steps.{gives, operand_at}
+use Rattle.js_control.specs.Stored.{AreNext, IsCountedSo, IsNext, IsReady}
 use Rattle.js_control.specs.Updates.{store_next, store_number, stored, update_gives}
-use Rattle.js_control.specs.declared.row.Side.{Side}
+use Rattle.js_operands.specs.declared.expr_move.ExprMove.{ExprMove}
+use Rattle.js_operands.specs.declared.row.Phase.{Phase}
+use Rattle.js_operands.specs.declared.row.Side.{Side}
+use Rattle.js_control.specs.declared.updates.Counted.{Counted}
+use Rattle.js_control.specs.declared.updates.Counted.TheVariants as counted
 use Rattle.js_control.specs.declared.updates.NextNumber.{NextNumber}
 
 module _ {H : Type 0} (w : World) (h : H) (u : UpdateOperator) (s : Side) (put : Value → Answer H)
@@ -55,3 +60,7 @@ module _ {H : Type 0} (O : OwnProperties H) (w : World) (h : H) (n : ℕ) (u : U
       ready.made r (gives (store_number w h put u s (to_number v)))
       ∙ ap gives (next_stored w h u s put m v ready.numbers)
       ∙ ap (λ z. gives (update_gives s m.old z)) written ∙ is
+
+-- how the node is left where the number is in conversion
+pub counted_so : (n : Option Phase) (e e' : Evaluation) (m : ExprMove) (x : Counted) → x ≡ counted.Moves m → IsCountedSo n e e' x → IsShaped n e e' m
+counted_so n e e' m x is s = subst (IsCountedSo n e e') is s

@@ -9,7 +9,7 @@ use Rattle.js_host.specs.There.{AreThere}
 use Rattle.js_reference.specs.Puts.{window}
 use Rattle.js_term.specs.Evaluation.{Evaluation}
 use Rattle.js_control.specs.Calls.{on_window}
-use Rattle.js_control.specs.ExprMoves.{operand_names, values_coming}
+use Rattle.js_operands.specs.ExprMoves.{operand_names, values_coming}
 
 -- the window stands behind the callee
 pub window_on : (vs : List Value) (v : Value) → 0 < length vs → v ≡ Ref window → (take 1 vs ++ v ∷ []) ++ drop 1 vs ≡ on_window vs

@@ -9,10 +9,10 @@ use Rattle.js_reference.specs.Names.{read_name}
 use Rattle.js_reference.specs.Own.{OwnProperties}
 use Rattle.js_reference.specs.Properties.{read}
 use Rattle.js_term.specs.declared.context.Context.{Context}
-use Rattle.js_control.specs.Made.{Made}
-use Rattle.js_control.specs.Rows.ExprRow.{Index, DeleteIndex}
-use Rattle.js_control.specs.Steps.{gives, operand_at}
-use Rattle.js_control.specs.Conversions.{keyed}
+use Rattle.js_operands.specs.Made.{Made}
+use Rattle.js_operands.specs.Rows.ExprRow.{Index, DeleteIndex}
+use Rattle.js_operands.specs.Steps.{gives, operand_at}
+use Rattle.js_operands.specs.Conversions.{keyed}
 
 module _ {H : Type 0} (O : OwnProperties H) (c : Context) (w : World) (h : H) where
   abbrev pub name_row : List ℕ → Made H

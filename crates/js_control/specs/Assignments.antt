@@ -16,12 +16,12 @@ use Rattle.js_reference.specs.Puts.{write}
 use Rattle.js_term.specs.declared.context.Context.{Context}
 use Rattle.js_tree.specs.Trees.{Tree}
 use Rattle.js_tree.specs.declared.production.BinaryOperator.{BinaryOperator}
-use Rattle.js_control.specs.Made.{Made}
-use Rattle.js_control.specs.Rows.{ExprRow}
-use Rattle.js_control.specs.Rows.ExprRow.{AssignIndex, AssignMember, AssignName}
-use Rattle.js_control.specs.Rows.ExprRow.{ComputeIndex, ComputeMember, ComputeName, ReviseIndex}
-use Rattle.js_control.specs.Steps.{gives, goes_on, operand_at, throws, with_value}
-use Rattle.js_control.specs.Conversions.{convert, converts, keyed, prepared}
+use Rattle.js_operands.specs.Made.{Made}
+use Rattle.js_operands.specs.Rows.{ExprRow}
+use Rattle.js_operands.specs.Rows.ExprRow.{AssignIndex, AssignMember, AssignName}
+use Rattle.js_operands.specs.Rows.ExprRow.{ComputeIndex, ComputeMember, ComputeName, ReviseIndex}
+use Rattle.js_operands.specs.Steps.{gives, goes_on, operand_at, throws, with_value}
+use Rattle.js_operands.specs.Conversions.{convert, converts, keyed, prepared}
 use Rattle.js_control.specs.Operators.{operator_wants}
 use Rattle.js_operations.specs.Operations.{operate, operation}
 

@@ -12,12 +12,12 @@ use Rattle.js_reference.specs.Own.{OwnProperties}
 use Rattle.js_reference.specs.Properties.{read}
 use Rattle.js_reference.specs.Puts.{window}
 use Rattle.js_tree.specs.Trees.{Tree}
-use Rattle.js_control.specs.Made.{Made}
-use Rattle.js_control.specs.Rows.ExprRow.{CallIndex, CallOn, New}
-use Rattle.js_control.specs.Setting.{HostFacts}
-use Rattle.js_control.specs.Steps.{goes_on, operand_at}
-use Rattle.js_control.specs.Conversions.{hints, keyed, prepared}
-use Rattle.js_control.specs.declared.wants.Wants.TheVariants as wants
+use Rattle.js_operands.specs.Made.{Made}
+use Rattle.js_operands.specs.Rows.ExprRow.{CallIndex, CallOn, New}
+use Rattle.js_operands.specs.Setting.{HostFacts}
+use Rattle.js_operands.specs.Steps.{call_node, goes_on, operand_at}
+use Rattle.js_operands.specs.Conversions.{hints, keyed, prepared}
+use Rattle.js_operands.specs.declared.wants.Wants.TheVariants as wants
 
 -- a call on `this`, and a `new`
 abbrev pub call_with : (this : Value) → List Value → NativeCall
@@ -30,10 +30,6 @@ new_with vs = record { construct = true; this = value.Undefined; args = vs }
 abbrev pub on_window : List Value → List Value
 on_window [] = []
 on_window (f ∷ vs) = f ∷ value.Ref window ∷ vs
-
--- behind the step that reads the function
-abbrev pub call_node : {H : Type 0} → List Tree → (base callee : Value) → World → H → Made H
-call_node xs e f w h = Made.GoesOn CallOn (f ∷ e ∷ []) xs w h
 
 module _ {H : Type 0} (F : HostFacts H) (w : World) (h : H) where
   abbrev pub call_on_row : List Value → Made H

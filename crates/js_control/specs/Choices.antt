@@ -5,9 +5,9 @@ use Rattle.js_value.specs.Image.{to_boolean}
 use Rattle.js_value.specs.declared.value.Value.{Value}
 use Rattle.js_heap.specs.World.{World}
 use Rattle.js_tree.specs.Trees.{Tree}
-use Rattle.js_control.specs.Made.{Made}
-use Rattle.js_control.specs.Made.Made.{Gives, Becomes}
-use Rattle.js_control.specs.Steps.{operand_at}
+use Rattle.js_operands.specs.Made.{Made}
+use Rattle.js_operands.specs.Made.Made.{Gives, Becomes}
+use Rattle.js_operands.specs.Steps.{operand_at}
 
 module _ {H : Type 0} (w : World) (h : H) where
   abbrev pub and_row : Tree → List Value → Made H

@@ -1,9 +1,3 @@
-pub mod Rows
-pub mod Made
-pub mod Setting
-pub mod Hosted
-pub mod Steps
-pub mod Conversions
 pub mod Literals
 pub mod Accesses
 pub mod Calls
@@ -12,10 +6,5 @@ pub mod Assignments
 pub mod Updates
 pub mod Stored
 pub mod Choices
-pub mod Handlers
-pub mod Syntax
 pub mod Make
-pub mod ExprMoves
-pub mod Prepared
-pub mod Keyed
-pub mod ArenaRows
+pub mod inner

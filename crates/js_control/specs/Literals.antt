@@ -12,9 +12,9 @@ use Rattle.js_operations.specs.Literals.{array_literal, object_literal}
 use Rattle.js_term.specs.declared.context.Context.{Context}
 use Rattle.js_term.specs.Place.{Place}
 use Rattle.js_term.specs.Place.Place.{At, Host}
-use Rattle.js_control.specs.Made.{Made}
-use Rattle.js_control.specs.Made.Made.{Gives}
-use Rattle.js_control.specs.Steps.{gives, throws}
+use Rattle.js_operands.specs.Made.{Made}
+use Rattle.js_operands.specs.Made.Made.{Gives}
+use Rattle.js_operands.specs.Steps.{gives, throws}
 
 -- the function that begins at a place, in a context
 abbrev pub code_at : Place → Context → Code

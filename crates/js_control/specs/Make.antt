@@ -10,10 +10,10 @@ use Rattle.js_term.specs.Place.{Place}
 use Rattle.js_term.specs.Table.{Step}
 use Rattle.js_term.specs.Term.{Terms}
 use Rattle.js_term.specs.Term.Term.{Stop}
-use Rattle.js_control.specs.Made.{Made}
-use Rattle.js_control.specs.Rows.{ExprRow}
-use Rattle.js_control.specs.Setting.{HostFacts, Setting}
-use Rattle.js_control.specs.Steps.{step_before, step_of}
+use Rattle.js_operands.specs.Made.{Made}
+use Rattle.js_operands.specs.Rows.{ExprRow}
+use Rattle.js_operands.specs.Setting.{HostFacts, Setting}
+use Rattle.js_operands.specs.Steps.{step_before, step_of}
 use Rattle.js_control.specs.Accesses.{delete_index_row, delete_member_row, index_row, member_row}
 use Rattle.js_control.specs.Accesses.{name_row}
 use Rattle.js_control.specs.Assignments.{assign_index_row, assign_member_row, assign_name_row}
@@ -22,7 +22,7 @@ use Rattle.js_control.specs.Assignments.{revise_index_row, revise_member_row, re
 use Rattle.js_control.specs.Assignments.{early_index, early_member, index_is_early, member_is_early}
 use Rattle.js_control.specs.Calls.{call_index_row, call_member_row, call_on_row, call_row, new_row}
 use Rattle.js_control.specs.Choices.{and_row, comma_row, conditional_row, or_row}
-use Rattle.js_control.specs.Conversions.{convert_row, converting_row}
+use Rattle.js_operands.specs.Conversions.{convert_row, converting_row}
 use Rattle.js_control.specs.Literals.{array_row, function_row, object_row, this_row}
 use Rattle.js_control.specs.Operators.{binary_row, type_of_name_row, unary_row}
 use Rattle.js_control.specs.Updates.{store_index_row, store_member_row, store_name_row}

@@ -11,10 +11,10 @@ use Rattle.js_operations.specs.Unary.{type_of_option, unary_operate, unary_wants
 use Rattle.js_term.specs.declared.context.Context.{Context}
 use Rattle.js_tree.specs.declared.production.BinaryOperator.{BinaryOperator}
 use Rattle.js_tree.specs.declared.production.UnaryOperator.{UnaryOperator}
-use Rattle.js_control.specs.Made.{Made}
-use Rattle.js_control.specs.Rows.ExprRow.{Binary, Unary}
-use Rattle.js_control.specs.Steps.{gives, operand_at}
-use Rattle.js_control.specs.Conversions.{prepared, wants_at}
+use Rattle.js_operands.specs.Made.{Made}
+use Rattle.js_operands.specs.Rows.ExprRow.{Binary, Unary}
+use Rattle.js_operands.specs.Steps.{gives, operand_at}
+use Rattle.js_operands.specs.Conversions.{prepared, wants_at}
 
 -- the left operand, at this place, is converted first
 abbrev pub operator_wants : ℕ → BinaryOperator → (left right : Value) → ℕ → Option Hint

@@ -12,13 +12,15 @@ use Rattle.js_operations.specs.NextNumbers.{next_number}
 use Rattle.js_term.specs.Evaluation.{Evaluation}
 use Rattle.js_tree.specs.Arena.{Arena}
 use Rattle.js_tree.specs.declared.production.UpdateOperator.{UpdateOperator}
-use Rattle.js_control.specs.Conversions.{prepared, wants_at}
-use Rattle.js_control.specs.ExprMoves.{made_of, move_names}
-use Rattle.js_control.specs.Made.{Made}
-use Rattle.js_control.specs.Rows.{ExprRow}
-use Rattle.js_control.specs.Steps.{operand_at}
+use Rattle.js_operands.specs.Conversions.{prepared, wants_at}
+use Rattle.js_operands.specs.ExprMoves.{made_of, move_names}
+use Rattle.js_operands.specs.Made.{Made}
+use Rattle.js_operands.specs.Rows.{ExprRow}
+use Rattle.js_operands.specs.Shapes.{IsShaped}
+use Rattle.js_operands.specs.Steps.{operand_at}
 use Rattle.js_control.specs.Updates.{stored}
-use Rattle.js_control.specs.declared.row.Side.{Side}
+use Rattle.js_operands.specs.declared.row.Phase.{Phase}
+use Rattle.js_operands.specs.declared.row.Side.{Side}
 use Rattle.js_control.specs.declared.updates.Counted.{Counted}
 use Rattle.js_control.specs.declared.updates.Counted.TheVariants as counted
 use Rattle.js_control.specs.declared.updates.NextNumber.{NextNumber}
@@ -53,3 +55,8 @@ module _ {H : Type 0} (O : OwnProperties H) (w : World) (h : H) (n : ℕ) (u : U
 abbrev pub counted_names : Counted → List Value → List Value
 counted_names (counted.Ready m) vs = vs
 counted_names (counted.Moves m) vs = move_names m vs
+
+-- how the node is left where it waits for the target's value
+abbrev pub IsCountedSo : Option Phase → (e e' : Evaluation) → Counted → Type 0
+IsCountedSo n e e' (counted.Ready m) = Unit {0}
+IsCountedSo n e e' (counted.Moves m) = IsShaped n e e' m

@@ -17,13 +17,13 @@ use Rattle.js_reference.specs.Puts.{write}
 use Rattle.js_operations.specs.NextNumbers.{next_number}
 use Rattle.js_term.specs.declared.context.Context.{Context}
 use Rattle.js_tree.specs.declared.production.UpdateOperator.{UpdateOperator}
-use Rattle.js_control.specs.Made.{Made}
-use Rattle.js_control.specs.Rows.{ExprRow}
-use Rattle.js_control.specs.Rows.ExprRow.{StoreIndex, StoreMember, StoreName, UpdateIndex}
-use Rattle.js_control.specs.Steps.{gives, goes_on, operand_at, with_value}
-use Rattle.js_control.specs.declared.row.Side.{Side}
-use Rattle.js_control.specs.declared.row.Side.TheVariants.{Before, Behind}
-use Rattle.js_control.specs.Conversions.{keyed, prepared, wants_at}
+use Rattle.js_operands.specs.Made.{Made}
+use Rattle.js_operands.specs.Rows.{ExprRow}
+use Rattle.js_operands.specs.Rows.ExprRow.{StoreIndex, StoreMember, StoreName, UpdateIndex}
+use Rattle.js_operands.specs.Steps.{gives, goes_on, operand_at, with_value}
+use Rattle.js_operands.specs.declared.row.Side.{Side}
+use Rattle.js_operands.specs.declared.row.Side.TheVariants.{Before, Behind}
+use Rattle.js_operands.specs.Conversions.{keyed, prepared, wants_at}
 
 -- what the expression gives, of the old number and the new one
 abbrev pub update_gives : {H : Type 0} → Side → Num → Answer H → Answer H

@@ -1,5 +1,6 @@
 // Names and properties that are read and deleted.
 ghost use Rattle.std.specs.Prelude.{◌≡◌, [], IfOk, OnOk, length};
+ghost use Rattle.std.specs.Prelude.{Option};
 ghost use Rattle.std.specs.Option.{option_map};
 ghost use Rattle.js_heap.specs.Chains.{IsBelow};
 ghost use Rattle.js_heap.specs.Scopes.{scope_number};
@@ -8,16 +9,17 @@ ghost use Rattle.js_reference.specs.Hosted.{hosted};
 ghost use Rattle.js_reference.specs.Later.{IsLater};
 ghost use Rattle.js_tree.specs.Arena.{Arena};
 ghost use Rattle.js_control.specs.Accesses as rows;
-ghost use Rattle.js_control.specs.ExprMoves.{made_of, move_names, operand_names};
-ghost use Rattle.js_control.specs.Rows.{ExprRow as Row};
+ghost use Rattle.js_operands.specs.ExprMoves.{made_of, move_names, operand_names};
+ghost use Rattle.js_operands.specs.Rows.{ExprRow as Row};
+ghost use Rattle.js_operands.specs.Shapes.{IsShaped};
+ghost use Rattle.js_operands.specs.declared.row.Phase.{Phase as PhaseKind};
+ghost use Rattle.js_term.specs.Evaluation.{Evaluation};
 
-use crate::ExprMove;
-use crate::keys::{delete_keyed, read_keyed};
-use crate::moves::given;
-use crate::reached::Reached;
-use crate::references::{delete_base, read_base, read_variable};
 use js_heap::Heap;
 use js_host::Host;
+use js_operands::{
+    ExprMove, Reached, delete_base, delete_keyed, given, read_base, read_keyed, read_variable,
+};
 use js_term::{Context, Operands};
 use mug_text::{JText, NoMemory};
 use std::alloc::Global;
@@ -38,6 +40,8 @@ pub(crate) fn name<H: Host>(
     ensures there { IfOk result (λ m.
         AreThere heap.new (move_names m (operand_names operands.now (H.names.host host.now)))) }
     ensures more { OnOk result (IsLater heap.old heap.new) }
+    ensures shape { (n : Option PhaseKind) (e f : Evaluation) → IfOk result (λ m.
+        IsShaped n e f m) }
 {
     let answered = read_variable(alloc, operands, at.scope, name, heap, host)?;
     Ok(given::<H>(answered))
@@ -58,6 +62,8 @@ pub(crate) fn member<H: Host>(
     ensures there { IfOk result (λ m.
         AreThere heap.new (move_names m (operand_names operands.now (H.names.host host.now)))) }
     ensures more { OnOk result (IsLater heap.old heap.new) }
+    ensures shape { (n : Option PhaseKind) (e f : Evaluation) → IfOk result (λ m.
+        IsShaped n e f m) }
 {
     let answered = read_base(alloc, operands, key, heap, host)?;
     Ok(given::<H>(answered))
@@ -77,6 +83,8 @@ pub(crate) fn index<H: Host>(
     ensures there { IfOk result (λ m.
         AreThere heap.new (move_names m (operand_names operands.new (H.names.host host.now)))) }
     ensures more { OnOk result (IsLater heap.old heap.new) }
+    ensures shape { (n : Option PhaseKind) → IfOk result (λ m.
+        IsShaped n operands.old operands.new m) }
 {
     match read_keyed(alloc, operands, heap, host)? {
         Reached::Moves(moved) => Ok(moved),
@@ -99,6 +107,8 @@ pub(crate) fn delete_member<H: Host>(
     ensures there { IfOk result (λ m.
         AreThere heap.new (move_names m (operand_names operands.now (H.names.host host.now)))) }
     ensures more { OnOk result (IsLater heap.old heap.new) }
+    ensures shape { (n : Option PhaseKind) (e f : Evaluation) → IfOk result (λ m.
+        IsShaped n e f m) }
 {
     let answered = delete_base(alloc, operands, key, heap, host)?;
     Ok(given::<H>(answered))
@@ -118,6 +128,8 @@ pub(crate) fn delete_index<H: Host>(
     ensures there { IfOk result (λ m.
         AreThere heap.new (move_names m (operand_names operands.new (H.names.host host.now)))) }
     ensures more { OnOk result (IsLater heap.old heap.new) }
+    ensures shape { (n : Option PhaseKind) → IfOk result (λ m.
+        IsShaped n operands.old operands.new m) }
 {
     match delete_keyed(alloc, operands, heap, host)? {
         Reached::Moves(moved) => Ok(moved),

@@ -1,5 +1,6 @@
 // Assignments.
 ghost use Rattle.std.specs.Prelude.{◌≡◌, ◌<◌, true, [], IfOk, OnOk, length};
+ghost use Rattle.std.specs.Prelude.{Option, Some};
 ghost use Rattle.std.specs.Option.{option_map};
 ghost use Rattle.js_heap.specs.Chains.{IsBelow};
 ghost use Rattle.js_heap.specs.Scopes.{scope_number};
@@ -10,21 +11,21 @@ ghost use Rattle.js_tree.specs.Arena.{Arena};
 ghost use Rattle.js_tree.specs.TreeAt.{tree_at};
 ghost use Rattle.js_tree.specs.declared.production.BinaryOperator.{BinaryOperator as Operator};
 ghost use Rattle.js_control.specs.Assignments as rows;
-ghost use Rattle.js_control.specs.ExprMoves.{later_row, made_of, move_names, operand_names};
-ghost use Rattle.js_control.specs.ExprMoves.{values_coming};
-ghost use Rattle.js_control.specs.Rows.{ExprRow as Row};
+ghost use Rattle.js_operands.specs.ExprMoves.{later_row, made_of, move_names, operand_names};
+ghost use Rattle.js_operands.specs.ExprMoves.{values_coming};
+ghost use Rattle.js_operands.specs.Rows.{ExprRow as Row};
+ghost use Rattle.js_operands.specs.Shapes.{IsShaped};
+ghost use Rattle.js_operands.specs.declared.row.Phase.{Phase as PhaseKind};
+ghost use Rattle.js_term.specs.Evaluation.{Evaluation};
 
-use crate::conversions::convert_operand;
-use crate::keys::{key_of, read_keyed};
-use crate::moves::{assign_next, given, read_before, type_error};
-use crate::operand::{is_missing, operand};
 use crate::operated::operated;
-use crate::reached::Reached;
-use crate::references::{read_base, read_variable, write_base, write_variable};
-use crate::wants::Wanted;
-use crate::{ExprMove, Phase};
 use js_heap::Heap;
 use js_host::Host;
+use js_operands::{
+    ExprMove, Phase, Reached, Wanted, assign_next, convert_operand, given, is_missing, key_of,
+    operand, read_base, read_before, read_keyed, read_variable, type_error, write_base,
+    write_variable,
+};
 use js_ops::Hint;
 use js_term::{Context, Operands};
 use js_tree::{BinaryOperator, NodeId};
@@ -49,6 +50,8 @@ pub(crate) fn assign_name<H: Host>(
     ensures there { IfOk result (λ m.
         AreThere heap.new (move_names m (operand_names operands.now (H.names.host host.new)))) }
     ensures more { OnOk result (IsLater heap.old heap.new) }
+    ensures shape { (n : Option PhaseKind) (e f : Evaluation) → IfOk result (λ m.
+        IsShaped n e f m) }
 {
     let undefined = Value::Undefined;
     let value = operand(operands, 0, &undefined).copy()?;
@@ -71,6 +74,8 @@ pub(crate) fn assign_member<H: Host>(
     ensures there { IfOk result (λ m.
         AreThere heap.new (move_names m (operand_names operands.now (H.names.host host.new)))) }
     ensures more { OnOk result (IsLater heap.old heap.new) }
+    ensures shape { (n : Option PhaseKind) (e f : Evaluation) → IfOk result (λ m.
+        IsShaped n e f m) }
 {
     let undefined = Value::Undefined;
     let value = operand(operands, 1, &undefined).copy()?;
@@ -92,6 +97,8 @@ pub(crate) fn assign_index<H: Host>(
     ensures there { IfOk result (λ m.
         AreThere heap.new (move_names m (operand_names operands.now (H.names.host host.new)))) }
     ensures more { OnOk result (IsLater heap.old heap.new) }
+    ensures shape { (n : Option PhaseKind) (e f : Evaluation) → IfOk result (λ m.
+        IsShaped n e f m) }
 {
     let undefined = Value::Undefined;
     let key = key_of(alloc, operands)?;
@@ -120,6 +127,7 @@ pub(crate) fn revise_name<H: Host>(
     ensures there { IfOk result (λ m.
         AreThere heap.new (move_names m (operand_names operands.new (H.names.host host.now)))) }
     ensures more { OnOk result (IsLater heap.old heap.new) }
+    ensures shape { IfOk result (λ m. IsShaped (Some Phase.Compute) operands.old operands.new m) }
 {
     let answered = read_variable(alloc, operands, at.scope, name, heap, host)?;
     read_before::<H>(operands, answered, right)
@@ -143,6 +151,7 @@ pub(crate) fn revise_member<H: Host>(
     ensures there { IfOk result (λ m.
         AreThere heap.new (move_names m (operand_names operands.new (H.names.host host.now)))) }
     ensures more { OnOk result (IsLater heap.old heap.new) }
+    ensures shape { IfOk result (λ m. IsShaped (Some Phase.Compute) operands.old operands.new m) }
 {
     let answered = read_base(alloc, operands, key, heap, host)?;
     read_before::<H>(operands, answered, right)
@@ -164,6 +173,7 @@ pub(crate) fn revise_index<H: Host>(
     ensures there { IfOk result (λ m.
         AreThere heap.new (move_names m (operand_names operands.new (H.names.host host.now)))) }
     ensures more { OnOk result (IsLater heap.old heap.new) }
+    ensures shape { IfOk result (λ m. IsShaped (Some Phase.Compute) operands.old operands.new m) }
 {
     match read_keyed(alloc, operands, heap, host)? {
         Reached::Moves(moved) => Ok(moved),
@@ -189,6 +199,7 @@ pub(crate) fn compute<H: Host>(
     ensures there { IfOk result (λ m.
         AreThere heap.new (move_names m (operand_names operands.new (H.names.host host.now)))) }
     ensures more { OnOk result (IsLater heap.old heap.new) }
+    ensures shape { IfOk result (λ m. IsShaped (Some Phase.Assign) operands.old operands.new m) }
 {
     match operated(alloc, operator, count, operands, heap, host)? {
         Reached::Moves(moved) => Ok(moved),
@@ -230,6 +241,8 @@ pub(crate) fn early_index<H: Host>(
     ensures there { IfOk result (λ m.
         AreThere heap.new (move_names m (operand_names operands.new (H.names.host host.now)))) }
     ensures more { OnOk result (IsLater heap.old heap.new) }
+    ensures shape { (n : Option PhaseKind) → IfOk result (λ m.
+        IsShaped n operands.old operands.new m) }
 {
     let undefined = Value::Undefined;
     if is_missing(operand(operands, 0, &undefined)) {

@@ -1,5 +1,6 @@
 // Calls and `new`.
 ghost use Rattle.std.specs.Prelude.{◌≡◌, ◌++◌, [], IfOk, OnOk, drop, map, slice_get};
+ghost use Rattle.std.specs.Prelude.{Option, Some};
 ghost use Rattle.js_value.specs.declared.value.Value.TheVariants.{Ref};
 ghost use Rattle.js_heap.specs.Closed.{IsThere};
 ghost use Rattle.js_host.specs.Names.{option_names};
@@ -10,21 +11,19 @@ ghost use Rattle.js_reference.specs.Puts as puts;
 ghost use Rattle.js_tree.specs.Arena.{Arena};
 ghost use Rattle.js_tree.specs.TreeAt.{tree_at};
 ghost use Rattle.js_control.specs.Calls as rows;
-ghost use Rattle.js_control.specs.ExprMoves.{made_of, move_names, operand_names};
-ghost use Rattle.js_control.specs.Hosted.{facts};
-ghost use Rattle.js_control.specs.Rows.{ExprRow as Row};
-ghost use Rattle.js_control.specs.Steps.{operand_at};
+ghost use Rattle.js_operands.specs.ExprMoves.{made_of, move_names, operand_names};
+ghost use Rattle.js_operands.specs.Hosted.{facts};
+ghost use Rattle.js_operands.specs.Rows.{ExprRow as Row};
+ghost use Rattle.js_operands.specs.Steps.{operand_at};
+ghost use Rattle.js_operands.specs.Shapes.{IsShaped};
+ghost use Rattle.js_operands.specs.declared.row.Phase.{Phase as PhaseKind};
 
-use crate::conversions::prepared;
-use crate::keys::read_keyed;
-use crate::moves::call_on_base;
-use crate::operand::{add_value, add_values, first_values, operand};
-use crate::reached::Reached;
-use crate::references::read_base;
-use crate::wants::Wants;
-use crate::{ExprMove, Phase};
 use js_heap::{Heap, Root};
 use js_host::{Host, NativeCall};
+use js_operands::{
+    ExprMove, Phase, Reached, Wants, add_value, add_values, call_on_base, first_values, operand,
+    prepared, read_base, read_keyed,
+};
 use js_reference::native_of;
 use js_term::Operands;
 use js_tree::NodeId;
@@ -100,6 +99,8 @@ pub(crate) fn call_on<H: Host>(
     ensures there { IfOk result (λ m.
         AreThere heap.new (move_names m (operand_names operands.new (H.names.host host.now)))) }
     ensures more { OnOk result (IsLater heap.old heap.new) }
+    ensures shape { (n : Option PhaseKind) → IfOk result (λ m.
+        IsShaped n operands.old operands.new m) }
 {
     let undefined = Value::Undefined;
     let wants = Wants::Call(native_of(heap, operand(operands, 0, &undefined)));
@@ -140,6 +141,7 @@ pub(crate) fn call<H: Host>(
     ensures there { IfOk result (λ m.
         AreThere heap.new (move_names m (operand_names operands.new (H.names.host host.now)))) }
     ensures more { OnOk result (IsLater heap.old heap.new) }
+    ensures shape { IfOk result (λ m. IsShaped (Some Phase.CallOn) operands.old operands.new m) }
 {
     let undefined = Value::Undefined;
     let mut on = on_window(alloc, heap, operands)?;
@@ -167,6 +169,8 @@ pub(crate) fn new_object<H: Host>(
     ensures there { IfOk result (λ m.
         AreThere heap.new (move_names m (operand_names operands.new (H.names.host host.now)))) }
     ensures more { OnOk result (IsLater heap.old heap.new) }
+    ensures shape { (n : Option PhaseKind) → IfOk result (λ m.
+        IsShaped n operands.old operands.new m) }
 {
     let undefined = Value::Undefined;
     let wants = Wants::New(native_of(heap, operand(operands, 0, &undefined)));
@@ -193,6 +197,7 @@ pub(crate) fn call_member<H: Host>(
     ensures there { IfOk result (λ m.
         AreThere heap.new (move_names m (operand_names operands.new (H.names.host host.now)))) }
     ensures more { OnOk result (IsLater heap.old heap.new) }
+    ensures shape { IfOk result (λ m. IsShaped (Some Phase.CallOn) operands.old operands.new m) }
 {
     let answered = read_base(alloc, operands, key, heap, host)?;
     call_on_base::<H>(alloc, operands, answered, arguments)
@@ -214,6 +219,7 @@ pub(crate) fn call_index<H: Host>(
     ensures there { IfOk result (λ m.
         AreThere heap.new (move_names m (operand_names operands.new (H.names.host host.now)))) }
     ensures more { OnOk result (IsLater heap.old heap.new) }
+    ensures shape { IfOk result (λ m. IsShaped (Some Phase.CallOn) operands.old operands.new m) }
 {
     match read_keyed(alloc, operands, heap, host)? {
         Reached::Moves(moved) => Ok(moved),

@@ -1,18 +1,20 @@
 // The steps that nodes make before all of their operands are evaluated.
 ghost use Rattle.std.specs.Prelude.{◌≡◌, [], true, IfOk, OnOk};
+ghost use Rattle.std.specs.Prelude.{Option};
 ghost use Rattle.js_host.specs.There.{AreThere};
 ghost use Rattle.js_reference.specs.Hosted.{hosted};
 ghost use Rattle.js_reference.specs.Later.{IsLater};
 ghost use Rattle.js_tree.specs.Arena.{Arena};
-ghost use Rattle.js_control.specs.ExprMoves.{made_of, move_names, operand_names, row_as};
-ghost use Rattle.js_control.specs.ExprMoves.{values_coming};
+ghost use Rattle.js_operands.specs.ExprMoves.{made_of, move_names, operand_names, row_as};
+ghost use Rattle.js_operands.specs.ExprMoves.{values_coming};
 ghost use Rattle.js_control.specs.Make as make;
+ghost use Rattle.js_operands.specs.Shapes.{IsShaped};
+ghost use Rattle.js_operands.specs.declared.row.Phase.{Phase as PhaseKind};
 
 use crate::assignments::{early_index, index_is_early, member_is_early};
-use crate::moves::type_error;
-use crate::{ExprMove, ExprRow};
 use js_heap::Heap;
 use js_host::Host;
+use js_operands::{ExprMove, ExprRow, type_error};
 use js_term::Operands;
 use mug_text::NoMemory;
 use std::alloc::Global;
@@ -45,6 +47,8 @@ pub fn early<H: Host>(
     ensures there { IfOk result (λ m.
         AreThere heap.new (move_names m (operand_names operands.new (H.names.host host.now)))) }
     ensures more { OnOk result (IsLater heap.old heap.new) }
+    ensures shape { (n : Option PhaseKind) → IfOk result (λ m.
+        IsShaped n operands.old operands.new m) }
 {
     match row {
         ExprRow::AssignIndex => early_index(alloc, operands, heap, host),

@@ -1,5 +1,6 @@
 // `this`, literals and function expressions.
 ghost use Rattle.std.specs.Prelude.{◌≡◌, List, IfOk, OnOk, is_some, length, map};
+ghost use Rattle.std.specs.Prelude.{Option};
 ghost use Rattle.std.specs.Option.{option_map};
 ghost use Rattle.js_value.specs.declared.value.Value.{Value as Held};
 ghost use Rattle.js_heap.specs.Chains.{IsBelow};
@@ -9,14 +10,15 @@ ghost use Rattle.js_reference.specs.Later.{IsLater};
 ghost use Rattle.js_term.specs.Evaluation.{Evaluation};
 ghost use Rattle.js_term.specs.Place.Place.{At};
 ghost use Rattle.js_tree.specs.Arena.{Arena};
-ghost use Rattle.js_control.specs.ExprMoves.{made_of, move_names, operand_names};
+ghost use Rattle.js_operands.specs.ExprMoves.{made_of, move_names, operand_names};
 ghost use Rattle.js_control.specs.Literals as rows;
-ghost use Rattle.js_control.specs.Rows.{ExprRow as Row};
+ghost use Rattle.js_operands.specs.Rows.{ExprRow as Row};
+ghost use Rattle.js_operands.specs.Shapes.{IsShaped};
+ghost use Rattle.js_operands.specs.declared.row.Phase.{Phase as PhaseKind};
 
-use crate::ExprMove;
-use crate::moves::given;
 use js_heap::{Code, Heap};
 use js_host::Host;
+use js_operands::{ExprMove, given};
 use js_operations::{array_literal, object_literal};
 use js_reference::{ErrorName, FunctionNames, make_function, objects_fit, thrown};
 use js_term::{Context, Operands};
@@ -27,7 +29,9 @@ use std::alloc::Global;
 
 /// `this` (ECMA-262 edition 5.1, 11.1.1).
 pub(crate) fn this(at: &Context) -> Result<ExprMove, NoMemory>
-    ensures { IfOk result (λ m. m ≡ ExprMove.Value at.now.this) }
+    ensures value { IfOk result (λ m. m ≡ ExprMove.Value at.now.this) }
+    ensures shape { (n : Option PhaseKind) (e f : Evaluation) → IfOk result (λ m.
+        IsShaped n e f m) }
 {
     Ok(ExprMove::Value(at.this.copy()?))
 }
@@ -49,6 +53,8 @@ pub(crate) fn function<H: Host>(
     ensures there { (vs : List Held) → AreThere heap.old vs
         → IfOk result (λ m. AreThere heap.new (move_names m vs)) }
     ensures more { OnOk result (IsLater heap.old heap.new) }
+    ensures shape { (n : Option PhaseKind) (e f : Evaluation) → IfOk result (λ m.
+        IsShaped n e f m) }
 {
     if !objects_fit(heap, 2) {
         let answered = thrown(alloc, host, heap, ErrorName::RangeError)?;
@@ -78,6 +84,8 @@ pub(crate) fn array<H: Host>(
     ensures there { IfOk result (λ m.
         AreThere heap.new (move_names m (operand_names operands.now (H.names.host host.now)))) }
     ensures more { OnOk result (IsLater heap.old heap.new) }
+    ensures shape { (n : Option PhaseKind) (e f : Evaluation) → IfOk result (λ m.
+        IsShaped n e f m) }
 {
     let values = operands.values(alloc)?;
     let answered = array_literal(alloc, host, heap, elements, values.as_slice())?;
@@ -99,6 +107,8 @@ pub(crate) fn object<H: Host>(
     ensures there { IfOk result (λ m.
         AreThere heap.new (move_names m (operand_names operands.now (H.names.host host.now)))) }
     ensures more { OnOk result (IsLater heap.old heap.new) }
+    ensures shape { (n : Option PhaseKind) (e f : Evaluation) → IfOk result (λ m.
+        IsShaped n e f m) }
 {
     let values = operands.values(alloc)?;
     let answered = object_literal(alloc, host, heap, entries, values.as_slice())?;

@@ -1,22 +1,22 @@
 // Operators between two operands.
 ghost use Rattle.std.specs.Prelude.{◌≡◌, ◌<◌, [], suc, IfOk, OnOk};
+ghost use Rattle.std.specs.Prelude.{Option};
 ghost use Rattle.js_host.specs.Natives as natives;
 ghost use Rattle.js_host.specs.There.{AreThere};
 ghost use Rattle.js_operations.specs.Operations as operations;
 ghost use Rattle.js_reference.specs.Hosted.{hosted};
 ghost use Rattle.js_reference.specs.Later.{IsLater};
-ghost use Rattle.js_control.specs.Conversions as conversions;
-ghost use Rattle.js_control.specs.ExprMoves.{operand_names};
+ghost use Rattle.js_operands.specs.Conversions as conversions;
+ghost use Rattle.js_operands.specs.ExprMoves.{operand_names};
 ghost use Rattle.js_control.specs.Operators.{operator_wants};
-ghost use Rattle.js_control.specs.Prepared.{HasReached, reached_names};
-ghost use Rattle.js_control.specs.Steps.{operand_at};
+ghost use Rattle.js_operands.specs.Prepared.{HasReached, reached_names};
+ghost use Rattle.js_operands.specs.Steps.{operand_at};
+ghost use Rattle.js_operands.specs.Shapes.{IsReachedSo};
+ghost use Rattle.js_operands.specs.declared.row.Phase.{Phase as PhaseKind};
 
-use crate::conversions::prepared;
-use crate::operand::operand;
-use crate::reached::Reached;
-use crate::wants::Wants;
 use js_heap::Heap;
 use js_host::Host;
+use js_operands::{Reached, Wants, operand, prepared};
 use js_operations::{Operation, operate, operation_wants};
 use js_term::Operands;
 use js_tree::BinaryOperator;
@@ -59,6 +59,8 @@ pub(crate) fn operated<H: Host>(
     ensures there { IfOk result (λ x.
         AreThere heap.new (reached_names x (operand_names operands.new (H.names.host host.now)))) }
     ensures more { OnOk result (IsLater heap.old heap.new) }
+    ensures shape { (n : Option PhaseKind) → IfOk result (λ x.
+        IsReachedSo n operands.old operands.new x) }
 {
     let wants = operator_hints(operator, place, operands);
     if let Some(moved) = prepared(alloc, wants, None, operands, heap, host)? {

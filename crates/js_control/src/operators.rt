@@ -1,5 +1,6 @@
 // Operators in front of an operand and between two.
 ghost use Rattle.std.specs.Prelude.{◌≡◌, [], None, IfOk, OnOk, length};
+ghost use Rattle.std.specs.Prelude.{Option};
 ghost use Rattle.std.specs.Option.{option_map};
 ghost use Rattle.js_heap.specs.Chains.{IsBelow};
 ghost use Rattle.js_heap.specs.Scopes.{scope_number};
@@ -8,22 +9,20 @@ ghost use Rattle.js_operations.specs.Unary as unary_operators;
 ghost use Rattle.js_reference.specs.Hosted.{hosted};
 ghost use Rattle.js_reference.specs.Later.{IsLater};
 ghost use Rattle.js_tree.specs.Arena.{Arena};
-ghost use Rattle.js_control.specs.Conversions as conversions;
-ghost use Rattle.js_control.specs.ExprMoves.{made_of, move_names, operand_names};
+ghost use Rattle.js_operands.specs.Conversions as conversions;
+ghost use Rattle.js_operands.specs.ExprMoves.{made_of, move_names, operand_names};
 ghost use Rattle.js_control.specs.Operators as rows;
-ghost use Rattle.js_control.specs.Prepared.{HasReached, reached_names};
-ghost use Rattle.js_control.specs.Rows.{ExprRow as Row};
-ghost use Rattle.js_control.specs.Steps.{operand_at};
+ghost use Rattle.js_operands.specs.Prepared.{HasReached, reached_names};
+ghost use Rattle.js_operands.specs.Rows.{ExprRow as Row};
+ghost use Rattle.js_operands.specs.Steps.{operand_at};
+ghost use Rattle.js_operands.specs.Shapes.{IsReachedSo, IsShaped};
+ghost use Rattle.js_operands.specs.declared.row.Phase.{Phase as PhaseKind};
+ghost use Rattle.js_term.specs.Evaluation.{Evaluation};
 
-use crate::ExprMove;
-use crate::conversions::prepared;
-use crate::moves::given;
-use crate::operand::operand;
 use crate::operated::operated;
-use crate::reached::Reached;
-use crate::wants::Wants;
 use js_heap::Heap;
 use js_host::Host;
+use js_operands::{ExprMove, Reached, Wants, given, operand, prepared};
 use js_operations::{type_of_option, unary_operate, unary_wants};
 use js_reference::name_value;
 use js_term::{Context, Operands};
@@ -48,6 +47,8 @@ pub(crate) fn type_of_name<H: Host>(
         ≡ made_of a r operands.now m heap.now host.now) }
     ensures there { IfOk result (λ m.
         AreThere heap.now (move_names m (operand_names operands.now (H.names.host host.now)))) }
+    ensures shape { (n : Option PhaseKind) (e f : Evaluation) → IfOk result (λ m.
+        IsShaped n e f m) }
 {
     let _operands = operands;
     let value = name_value(host, heap, at.scope, name)?;
@@ -72,6 +73,8 @@ fn operated_alone<H: Host>(
     ensures there { IfOk result (λ x.
         AreThere heap.new (reached_names x (operand_names operands.new (H.names.host host.now)))) }
     ensures more { OnOk result (IsLater heap.old heap.new) }
+    ensures shape { (n : Option PhaseKind) → IfOk result (λ x.
+        IsReachedSo n operands.old operands.new x) }
 {
     let wants = Wants::At(0, unary_wants(operator), None);
     if let Some(moved) = prepared(alloc, wants, None, operands, heap, host)? {
@@ -104,6 +107,8 @@ pub(crate) fn unary<H: Host>(
     ensures there { IfOk result (λ m.
         AreThere heap.new (move_names m (operand_names operands.new (H.names.host host.now)))) }
     ensures more { OnOk result (IsLater heap.old heap.new) }
+    ensures shape { (n : Option PhaseKind) → IfOk result (λ m.
+        IsShaped n operands.old operands.new m) }
 {
     match operated_alone(alloc, operator, operands, heap, host)? {
         Reached::Moves(moved) => Ok(moved),
@@ -127,6 +132,8 @@ pub(crate) fn binary<H: Host>(
     ensures there { IfOk result (λ m.
         AreThere heap.new (move_names m (operand_names operands.new (H.names.host host.now)))) }
     ensures more { OnOk result (IsLater heap.old heap.new) }
+    ensures shape { (n : Option PhaseKind) → IfOk result (λ m.
+        IsShaped n operands.old operands.new m) }
 {
     match operated(alloc, operator, 0, operands, heap, host)? {
         Reached::Moves(moved) => Ok(moved),

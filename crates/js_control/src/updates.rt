@@ -1,5 +1,6 @@
 // `++` and `--`: the target is read, its value converted to a number, and the next number written.
 ghost use Rattle.std.specs.Prelude.{◌≡◌, ◌<◌, [], Some, None, List, length};
+ghost use Rattle.std.specs.Prelude.{Option};
 ghost use Rattle.std.specs.Prelude.{IfOk, IfSome, IfNone, OnOk};
 ghost use Rattle.std.specs.Option.{option_map};
 ghost use Rattle.js_value.specs.Image.{IsPrimitive};
@@ -14,22 +15,20 @@ ghost use Rattle.js_reference.specs.Hosted.{hosted};
 ghost use Rattle.js_reference.specs.Later.{IsLater};
 ghost use Rattle.js_tree.specs.Arena.{Arena};
 ghost use Rattle.js_tree.specs.declared.production.UpdateOperator.{UpdateOperator as UpdateKind};
-ghost use Rattle.js_control.specs.ExprMoves.{made_of, move_names, operand_names};
-ghost use Rattle.js_control.specs.Rows.{ExprRow as Row};
-ghost use Rattle.js_control.specs.Stored.{AreNext, IsCounted, counted_names};
+ghost use Rattle.js_operands.specs.ExprMoves.{made_of, move_names, operand_names};
+ghost use Rattle.js_operands.specs.Rows.{ExprRow as Row};
+ghost use Rattle.js_control.specs.Stored.{AreNext, IsCounted, IsCountedSo, counted_names};
 ghost use Rattle.js_control.specs.Updates as rows;
-ghost use Rattle.js_control.specs.declared.row.Side.{Side as SideKind};
+ghost use Rattle.js_operands.specs.declared.row.Side.{Side as SideKind};
+ghost use Rattle.js_operands.specs.Shapes.{IsShaped};
+ghost use Rattle.js_operands.specs.declared.row.Phase.{Phase as PhaseKind};
 
-use crate::conversions::prepared;
-use crate::keys::{key_of, read_keyed};
-use crate::moves::{given, read_target};
-use crate::operand::operand;
-use crate::reached::Reached;
-use crate::references::{read_base, read_variable, write_base, write_variable};
-use crate::wants::Wants;
-use crate::{ExprMove, Phase, Side};
 use js_heap::Heap;
 use js_host::Host;
+use js_operands::{
+    ExprMove, Phase, Reached, Side, Wants, given, key_of, operand, prepared, read_base, read_keyed,
+    read_target, read_variable, write_base, write_variable,
+};
 use js_operations::next_number;
 use js_ops::{Hint, to_number};
 use js_reference::{Answered, ErrorName, thrown};
@@ -58,6 +57,7 @@ pub(crate) fn update_name<H: Host>(
     ensures there { IfOk result (λ m.
         AreThere heap.new (move_names m (operand_names operands.new (H.names.host host.now)))) }
     ensures more { OnOk result (IsLater heap.old heap.new) }
+    ensures shape { IfOk result (λ m. IsShaped (Some Phase.Store) operands.old operands.new m) }
 {
     let answered = read_variable(alloc, operands, at.scope, name, heap, host)?;
     read_target::<H>(operands, answered, Phase::Store)
@@ -79,6 +79,7 @@ pub(crate) fn update_member<H: Host>(
     ensures there { IfOk result (λ m.
         AreThere heap.new (move_names m (operand_names operands.new (H.names.host host.now)))) }
     ensures more { OnOk result (IsLater heap.old heap.new) }
+    ensures shape { IfOk result (λ m. IsShaped (Some Phase.Store) operands.old operands.new m) }
 {
     let answered = read_base(alloc, operands, key, heap, host)?;
     read_target::<H>(operands, answered, Phase::Store)
@@ -99,6 +100,7 @@ pub(crate) fn update_index<H: Host>(
     ensures there { IfOk result (λ m.
         AreThere heap.new (move_names m (operand_names operands.new (H.names.host host.now)))) }
     ensures more { OnOk result (IsLater heap.old heap.new) }
+    ensures shape { IfOk result (λ m. IsShaped (Some Phase.Store) operands.old operands.new m) }
 {
     match read_keyed(alloc, operands, heap, host)? {
         Reached::Moves(moved) => Ok(moved),
@@ -159,6 +161,8 @@ fn target_numbers<H: Host>(
     ensures there { IfOk result (λ c.
         AreThere heap.new (counted_names c (operand_names operands.new (H.names.host host.now)))) }
     ensures more { OnOk result (IsLater heap.old heap.new) }
+    ensures shape { (n : Option PhaseKind) → IfOk result (λ c.
+        IsCountedSo n operands.old operands.new c) }
 {
     let wants = Wants::At(place, Some(Hint::Number), None);
     if let Some(moved) = prepared(alloc, wants, None, operands, heap, host)? {
@@ -211,6 +215,8 @@ pub(crate) fn store_name<H: Host>(
     ensures there { IfOk result (λ m.
         AreThere heap.new (move_names m (operand_names operands.new (H.names.host host.new)))) }
     ensures more { OnOk result (IsLater heap.old heap.new) }
+    ensures shape { (n : Option PhaseKind) → IfOk result (λ m.
+        IsShaped n operands.old operands.new m) }
 {
     match target_numbers(alloc, operator, 0, operands, heap, host)? {
         Counted::Moves(moved) => Ok(moved),
@@ -241,6 +247,8 @@ pub(crate) fn store_member<H: Host>(
     ensures there { IfOk result (λ m.
         AreThere heap.new (move_names m (operand_names operands.new (H.names.host host.new)))) }
     ensures more { OnOk result (IsLater heap.old heap.new) }
+    ensures shape { (n : Option PhaseKind) → IfOk result (λ m.
+        IsShaped n operands.old operands.new m) }
 {
     match target_numbers(alloc, operator, 1, operands, heap, host)? {
         Counted::Moves(moved) => Ok(moved),
@@ -268,6 +276,8 @@ pub(crate) fn store_index<H: Host>(
     ensures there { IfOk result (λ m.
         AreThere heap.new (move_names m (operand_names operands.new (H.names.host host.new)))) }
     ensures more { OnOk result (IsLater heap.old heap.new) }
+    ensures shape { (n : Option PhaseKind) → IfOk result (λ m.
+        IsShaped n operands.old operands.new m) }
 {
     match target_numbers(alloc, operator, 2, operands, heap, host)? {
         Counted::Moves(moved) => Ok(moved),

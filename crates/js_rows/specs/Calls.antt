@@ -20,10 +20,10 @@ use Rattle.js_term.specs.Table.Step.{Gives}
 use Rattle.js_term.specs.Term.{after}
 use Rattle.js_term.specs.Term.Term.{Node}
 use Rattle.js_term.specs.Term.Terms.{Nil}
-use Rattle.js_control.specs.Rows.ExprRow.{CallOn}
-use Rattle.js_control.specs.Setting as expressions
-use Rattle.js_control.specs.Steps.{throw_step}
-use Rattle.js_stmt.specs.Calls.{call_function, function_in}
+use Rattle.js_operands.specs.Rows.ExprRow.{CallOn}
+use Rattle.js_operands.specs.Setting as expressions
+use Rattle.js_operands.specs.Steps.{throw_step}
+use Rattle.js_calls.specs.Calls.{call_function, function_in}
 use Rattle.js_stmt.specs.Made.{step_of}
 use Rattle.js_stmt.specs.Setting as statements
 use Rattle.js_rows.specs.Outside.{Outside}

@@ -24,7 +24,6 @@ use Rattle.js_reference.specs.Errors.{Answer, thrown}
 use Rattle.js_reference.specs.Errors.Answer.{Returns, Throws}
 use Rattle.js_reference.specs.declared.error.ErrorName.TheVariants.{RangeError}
 use Rattle.js_reference.specs.Hosted as reference
-use Rattle.js_reference.specs.Puts.{window}
 use Rattle.js_term.specs.declared.completion.Completion.{Completion}
 use Rattle.js_term.specs.declared.completion.Completion.TheVariants.{Throw}
 use Rattle.js_term.specs.declared.context.Context.{Context}
@@ -37,8 +36,9 @@ use Rattle.js_term.specs.Term.{Term, Terms, after}
 use Rattle.js_term.specs.Term.Term.{Node, Stop, Val}
 use Rattle.js_term.specs.Term.Terms.{Cons, Nil}
 use Rattle.js_tree.specs.Trees.{Tree}
-use Rattle.js_control.specs.Rows.{ExprRow}
-use Rattle.js_control.specs.Rows.ExprRow.{CallOn, Convert}
+use Rattle.js_calls.specs.Programs.{window_handler}
+use Rattle.js_operands.specs.Rows.{ExprRow}
+use Rattle.js_operands.specs.Rows.ExprRow.{CallOn, Convert}
 use Rattle.js_rows.specs.Forms.{Form}
 use Rattle.js_rows.specs.Forms.Form.{Begin, Dispatch, Fresh, Native}
 use Rattle.js_rows.specs.Outside.{Outside}
@@ -90,11 +90,6 @@ module _ {H D : Type 0} where
   throws_or (Throws v w h) = Gives (Stop (Throw v)) w h
 
 module _ {H D : Type 0} (R : HostRows H D) where
-  -- a global function of a handler's name sets the window's handler
-  abbrev pub window_handler : World → H → (name : List ℕ) → Value → World × H
-  window_handler w h x v =
-      let r = R.order w h (order.Handler window x v) in (r.1, r.2)
-
   -- a native that asks is given the answer, where there is one
   abbrev answered : Option Input → World → H → NativeId → NativeCall → Outcome × World × H
       → Outcome × World × H
@@ -158,7 +153,7 @@ module _ {H D : Type 0} (R : HostRows H D) where
     wants = wants;
     asks = λ n. asks n.number;
     refuses = is_refused;
-    handler = window_handler;
+    handler = window_handler R;
     function = function;
     native = λ w h n c. outcome_of (native_outcome answer w h n c);
     make = λ p c w h f vs. make_form w h f vs;

@@ -2,7 +2,7 @@
 use Rattle.std.specs.Prelude.{ℕ}
 use Rattle.js_term.specs.Place.{Place, Placed}
 use Rattle.js_term.specs.Place.Place.{At, Host}
-use Rattle.js_control.specs.Rows.{ExprRow}
+use Rattle.js_operands.specs.Rows.{ExprRow}
 use Rattle.js_stmt.specs.Rows.{StmtRow}
 
 -- a row of an expression, of a statement or a function's body, or a form that no text has: an entered native, a dispatch, a turn

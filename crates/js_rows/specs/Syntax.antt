@@ -5,8 +5,8 @@ use Rattle.js_term.specs.Place.{Place, Placed}
 use Rattle.js_term.specs.Term.{Term, Terms, node}
 use Rattle.js_tree.specs.declared.production.Production.{Production}
 use Rattle.js_tree.specs.Trees.{Tree}
-use Rattle.js_control.specs.Rows.{ExprRow}
-use Rattle.js_control.specs.Syntax.{expr_row}
+use Rattle.js_operands.specs.Rows.{ExprRow}
+use Rattle.js_operands.specs.Syntax.{expr_row}
 use Rattle.js_stmt.specs.Make.{labels_inside, stmt_has_no_step}
 use Rattle.js_stmt.specs.Rows.{StmtRow}
 use Rattle.js_stmt.specs.Rows.StmtRow.{Free}

@@ -1,5 +1,5 @@
 -- Into a catch, or the throw of what doesn't fit.
-use Rattle.std.proofs.Common.{◌≡◌, ℕ, List, [], Bool, true, false, Option, Some, None, refl, ap, sym, ◌∙◌}
+use Rattle.std.proofs.Common.{◌≡◌, ℕ, List, [], true, false, Option, Some, None, refl, ap, ◌∙◌}
 use Rattle.js_value.specs.declared.value.Value.{Value}
 use Rattle.js_heap.specs.Scopes.{declare, with_scope}
 use Rattle.js_heap.specs.World.{World}
@@ -7,7 +7,6 @@ use Rattle.js_heap.specs.declared.class.ScopeId.{ScopeId}
 use Rattle.js_reference.specs.Errors.{error_value, with_error}
 use Rattle.js_reference.specs.Room.{scopes_fit}
 use Rattle.js_reference.specs.declared.error.ErrorName.TheVariants.{RangeError}
-use Rattle.js_term.specs.ArenaOperands.{as_operands}
 use Rattle.js_term.specs.Evaluation.{Evaluation}
 use Rattle.js_term.specs.Operands.{listed}
 use Rattle.js_term.specs.declared.completion.Completion.TheVariants.{Throw}
@@ -18,7 +17,7 @@ use Rattle.js_tree.specs.Trees.{Tree, caught as caught_part, nodes}
 use Rattle.js_tree.specs.declared.node.Catch.{Catch as CatchOf}
 use Rattle.js_tree.specs.declared.node.NodeId.{NodeId}
 use Rattle.js_stmt.specs.CodeRows.{fresh, operand_trees}
-use Rattle.js_stmt.specs.Made.{Made, made}
+use Rattle.js_stmt.specs.Made.{made}
 use Rattle.js_stmt.specs.Made.Progress.{Completes, GoesOn}
 use Rattle.js_stmt.specs.Parts.{IsHeld}
 use Rattle.js_stmt.specs.Rows.StmtRow.{Catch}

@@ -1,7 +1,7 @@
 -- Searches in lists of declarators and clauses, and what they find in trees.
-use Rattle.std.proofs.Common.{◌≡◌, ℕ, zero, suc, ◌+◌, ◌<◌, ◌≤◌, List, [], ◌∷◌, ◌++◌, Bool, true, false}
-use Rattle.std.proofs.Common.{Option, Some, None, drop, get_or, length, map, take, refl, ap, sym, ◌∙◌}
-use Rattle.std.proofs.Common.{subst, append_assoc, arith, add-one, drop-drop, slice_get}
+use Rattle.std.proofs.Common.{◌≡◌, ℕ, zero, suc, ◌+◌, ◌<◌, ◌≤◌, List, [], ◌∷◌, ◌++◌, true, false}
+use Rattle.std.proofs.Common.{Option, Some, None, drop, get_or, length, take, refl, ap, sym, ◌∙◌}
+use Rattle.std.proofs.Common.{append_assoc, arith, drop-drop, slice_get}
 use Rattle.std.specs.Option.{option_map}
 use Rattle.std.proofs.lemmas.Option.{same_Some}
 use Rattle.js_value.specs.Same.{same}
@@ -30,7 +30,7 @@ use Rattle.js_stmt.specs.Rows.StmtRow.{SwitchBody}
 use Rattle.js_stmt.specs.Steps.{pair}
 use Rattle.js_stmt.specs.Switches.{Tested, at_clause, behind_first, case_row, first_tested}
 use Rattle.js_stmt.specs.Switches.{from_default, into_statements, statements_of}
-use Rattle.js_stmt.specs.Variables.{Initialised, first_initialised, next_declared}
+use Rattle.js_stmt.specs.Variables.{first_initialised, next_declared}
 use Rattle.js_stmt.specs.declared.found.Found.{Found}
 use Rattle.js_stmt.proofs.Lists.{chosen, other, statements_held}
 

@@ -1,5 +1,5 @@
 -- Into the phases of statements.
-use Rattle.std.proofs.Common.{◌≡◌, [], ◌∷◌, Bool, true, Option, Some, None, refl, subst}
+use Rattle.std.proofs.Common.{◌≡◌, [], ◌∷◌, true, Option, Some, None, refl, subst}
 use Rattle.js_tree.specs.Arena.{Arena}
 use Rattle.js_tree.specs.TreeAt.{perhaps_tree, tree_at}
 use Rattle.js_tree.specs.Trees.{Tree, perhaps}

@@ -6,4 +6,7 @@ pub mod Operated
 pub mod CatchSteps
 pub mod MoveRows
 pub mod NodeParts
-pub mod CallSteps
+pub mod HeldParts
+pub mod Brought
+pub mod CaughtThere
+pub mod Shaped

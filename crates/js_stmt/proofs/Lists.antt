@@ -1,9 +1,7 @@
 -- Lists of statements as operands and as trees.
-use Rattle.std.proofs.Common.{◌≡◌, ℕ, zero, suc, ◌+◌, ◌<◌, List, [], ◌∷◌, ◌++◌, Bool, true, false}
-use Rattle.std.proofs.Common.{Option, Some, None, drop, get_or, length, map, take, refl, ap, sym, ◌∙◌}
-use Rattle.std.proofs.Common.{subst, append_assoc, arith, add-one}
+use Rattle.std.proofs.Common.{◌≡◌, List, [], ◌∷◌, Bool, true, false}
+use Rattle.std.proofs.Common.{Option, Some, None, refl, ap, ◌∙◌}
 use Rattle.std.specs.Prelude.{if◌then◌else◌}
-use Rattle.std.proofs.lemmas.List.{append-nil, drop_all, map-append, take_more}
 use Rattle.js_tree.specs.Arena.{Arena}
 use Rattle.js_tree.specs.TreeAt.{tree_at, tree_of}
 use Rattle.js_tree.specs.Trees.{Tree, at_last, nodes}
@@ -14,10 +12,8 @@ use Rattle.js_term.specs.Operands.{listed}
 use Rattle.js_term.specs.declared.completion.Completion.{Completion}
 use Rattle.js_term.specs.declared.context.Context.{Context}
 use Rattle.js_stmt.specs.CodeRows.{fresh, operand_trees}
-use Rattle.js_stmt.specs.Made.{Progress}
 use Rattle.js_stmt.specs.Made.Progress.{GoesOn}
 use Rattle.js_stmt.specs.Parts.{IsHeld, is_node}
-use Rattle.js_stmt.specs.Rows.{StmtRow}
 use Rattle.js_stmt.specs.Rows.StmtRow.{Finally}
 use Rattle.js_stmt.specs.Tries.{into_finally}
 

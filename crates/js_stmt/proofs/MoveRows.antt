@@ -1,5 +1,5 @@
 -- A move of one row of a loop or a switch is that of another.
-use Rattle.std.proofs.Common.{◌≡◌, List, [], ◌∷◌, ◌++◌, Bool, true, false, Option, Some, drop, refl, ap}
+use Rattle.std.proofs.Common.{◌≡◌, List, [], ◌∷◌, ◌++◌, false, Option, Some, drop, refl, ap}
 use Rattle.std.specs.Prelude.{Err, IfOk, Ok, Result}
 use Rattle.js_value.specs.declared.value.Value.{Value}
 use Rattle.js_heap.specs.World.{World}

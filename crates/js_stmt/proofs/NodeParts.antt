@@ -1,6 +1,6 @@
 -- What a node of an arena names is there, and the variable of a for-in.
-use Rattle.std.proofs.Common.{◌≡◌, ℕ, ◌+◌, ◌<◌, ◌≤◌, List, [], ◌∷◌, Bool, true, Option, Some, None, drop}
-use Rattle.std.proofs.Common.{length, slice_get, refl, ap, sym, ◌∙◌, subst, arith}
+use Rattle.std.proofs.Common.{◌≡◌, ℕ, ◌+◌, ◌≤◌, List, [], ◌∷◌, Option, Some, None, drop}
+use Rattle.std.proofs.Common.{length, slice_get, refl, ap, sym, ◌∙◌, arith}
 use Rattle.std.specs.Option.{option_map}
 use Rattle.std.proofs.lemmas.Option.{same_Some}
 use Rattle.js_tree.proofs.Held.{kept_at}
@@ -15,11 +15,11 @@ use Rattle.js_tree.specs.declared.script.Kept.{Kept}
 use Rattle.js_term.proofs.ArenaTrees.{tree-opened}
 use Rattle.js_term.specs.declared.context.Context.{Context}
 use Rattle.js_stmt.specs.CodeRows.{declarators_as, initialised_from, var_as}
-use Rattle.js_stmt.specs.NodeRows.{first_name, node_row, row_by, row_in, target_name}
+use Rattle.js_stmt.specs.NodeRows.{node_row, row_by, row_in, target_name}
 use Rattle.js_stmt.specs.Parts.{IsHeld, is_node}
 use Rattle.js_stmt.specs.Rows.{StmtRow}
 use Rattle.js_stmt.specs.Syntax.{name_of_target}
-use Rattle.js_stmt.specs.Variables.{first_initialised, row_at, row_of_var}
+use Rattle.js_stmt.specs.Variables.{row_at, row_of_var}
 use Rattle.js_stmt.specs.declared.found.Found.{Found}
 use Rattle.js_stmt.specs.declared.kept.StmtKept.{StmtKept}
 use Rattle.js_stmt.specs.declared.phase.StmtPhase.{StmtPhase}

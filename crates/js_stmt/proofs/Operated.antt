@@ -1,5 +1,5 @@
 -- The value of a row with one operand, and steps behind a write to a name.
-use Rattle.std.proofs.Common.{◌≡◌, ℕ, ◌+◌, ◌<◌, List, [], ◌∷◌, ◌++◌, Option, Some, None, drop, get_or}
+use Rattle.std.proofs.Common.{◌≡◌, ℕ, ◌+◌, ◌<◌, List, [], ◌∷◌, ◌++◌, Option, Some, drop, get_or}
 use Rattle.std.proofs.Common.{length, refl, ap, sym, ◌∙◌, subst}
 use Rattle.std.proofs.lemmas.List.{drop_more}
 use Rattle.js_value.specs.declared.value.Value.{Value}
@@ -19,7 +19,7 @@ use Rattle.js_tree.specs.Trees.{Tree}
 use Rattle.js_tree.specs.declared.node.Declarator.{Declarator}
 use Rattle.js_stmt.specs.CodeRows.{after_answer, declarators_as, var_as}
 use Rattle.js_stmt.specs.ForIn.{for_name}
-use Rattle.js_stmt.specs.Made.{Made, Progress, made}
+use Rattle.js_stmt.specs.Made.{Progress, made}
 use Rattle.js_stmt.specs.Made.Progress.{GoesOn}
 use Rattle.js_stmt.specs.Make.{made_stmt}
 use Rattle.js_stmt.specs.Rows.StmtRow.{ForInKeys}

@@ -1,5 +1,5 @@
 -- Rows, phases and moves as code has them: what they are in an arena.
-use Rattle.std.specs.Prelude.{◌≡◌, ℕ, zero, suc, ◌+◌, ◌<◌, ◌==◌, Bool, true, false, List, [], ◌∷◌, ◌++◌, Option, Some}
+use Rattle.std.specs.Prelude.{ℕ, zero, suc, ◌+◌, ◌<◌, ◌==◌, Bool, true, false, List, [], ◌∷◌, ◌++◌, Option, Some}
 use Rattle.std.specs.Prelude.{None, drop, length, if◌then◌else◌, map}
 use Rattle.std.specs.Option.{option_copied}
 use Rattle.js_value.specs.declared.value.Value.{Value}
@@ -8,8 +8,8 @@ use Rattle.js_heap.specs.declared.class.ScopeId.{ScopeId}
 use Rattle.js_reference.specs.declared.answered.Answered.{Answered}
 use Rattle.js_reference.specs.declared.answered.Answered.TheVariants as answered
 use Rattle.js_tree.specs.Arena.{Arena, node_at}
-use Rattle.js_tree.specs.TreeAt.{body_at, node_with, perhaps_tree, tree_at, tree_of}
-use Rattle.js_tree.specs.Trees.{Part, Tree, at_last, cases, caught, declarators, perhaps}
+use Rattle.js_tree.specs.TreeAt.{perhaps_tree, tree_at, tree_of}
+use Rattle.js_tree.specs.Trees.{Tree, at_last, cases, caught, declarators}
 use Rattle.js_tree.specs.declared.node.Case.{Case}
 use Rattle.js_tree.specs.declared.node.Declarator.{Declarator}
 use Rattle.js_tree.specs.declared.node.Guarded.{Guarded}
@@ -35,7 +35,6 @@ use Rattle.js_stmt.specs.declared.row.Labelling.{Labelling}
 use Rattle.js_stmt.specs.declared.row.LoopParts.{LoopParts}
 use Rattle.js_stmt.specs.declared.row.StmtRow.{StmtRow as CodeRow}
 use Rattle.js_stmt.specs.declared.row.StmtRow.TheVariants as code
-use Rattle.js_stmt.specs.declared.row.SwitchParts.{SwitchParts}
 use Rattle.js_stmt.specs.declared.stmt_move.StmtMove.{StmtMove}
 use Rattle.js_stmt.specs.declared.stmt_move.StmtMove.TheVariants as move
 
@@ -207,7 +206,7 @@ ended_as m = None
 abbrev pub fresh : List NodeId → Evaluation
 fresh ids = record { done = []; todo = as_operands ids }
 
--- the values that a completion names, and those of a move, in front of others
+-- the values that a completion names, in front of others
 abbrev pub completion_names : Completion → List Value → List Value
 completion_names (completion.Return v) vs = v ∷ vs
 completion_names (completion.Throw v) vs = v ∷ vs
@@ -217,12 +216,19 @@ abbrev pub kept_names : Option Completion → List Value → List Value
 kept_names (Some k) vs = completion_names k vs
 kept_names None vs = vs
 
-abbrev pub move_names : StmtMove → List Value → List Value
-move_names (move.Value v) vs = v ∷ vs
-move_names (move.Abrupt k) vs = completion_names k vs
-move_names (move.Names v ks) vs = v ∷ vs
-move_names (move.Finally k) vs = kept_names k vs
-move_names m vs = vs
+-- those of a move, and of its operands where the node goes on
+abbrev pub move_names : StmtMove → (done : List Value) → List Value → List Value
+move_names (move.Value v) done vs = v ∷ vs
+move_names (move.Abrupt k) done vs = completion_names k vs
+move_names (move.GoesOn p) done vs = done ++ vs
+move_names (move.Names v ks) done vs = v ∷ (done ++ vs)
+move_names (move.Finally k) done vs = kept_names k (done ++ vs)
+move_names m done vs = vs
+
+-- the scope that the operands of a node run in from a move on, where that is another
+abbrev pub scope_entered : StmtMove → Option ℕ
+scope_entered (move.GoesOn (phase.Catch s)) = Some s.number
+scope_entered m = None
 
 -- the values that a frame keeps for its row
 abbrev pub row_names : CodeRow → List Value → List Value

@@ -9,10 +9,10 @@ pub mod Jumps
 pub mod Switches
 pub mod Tries
 pub mod Bodies
-pub mod Calls
-pub mod Programs
 pub mod Syntax
 pub mod Make
 pub mod CodeRows
 pub mod Parts
+pub mod Wider
+pub mod Shapes
 pub mod NodeRows

@@ -1,6 +1,5 @@
 -- The row of a node of an arena in a phase, with what its frame keeps.
 use Rattle.std.specs.Prelude.{ℕ, List, [], ◌∷◌, Option, Some, None, drop, unwrap_or}
-use Rattle.std.specs.Option.{option_map}
 use Rattle.js_value.specs.declared.value.Value.{Value}
 use Rattle.js_heap.specs.declared.class.ScopeId.{ScopeId}
 use Rattle.js_tree.specs.Arena.{Arena, node_at}

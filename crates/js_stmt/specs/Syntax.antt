@@ -9,11 +9,15 @@ use Rattle.js_tree.specs.Trees.{Tree}
 use Rattle.js_tree.specs.Trees.Tree.{Made, Missing, Word}
 use Rattle.js_term.specs.Operands.{Labels}
 use Rattle.js_stmt.specs.Rows.{Loop, StmtRow}
-use Rattle.js_stmt.specs.Calls.{word_in}
 use Rattle.js_stmt.specs.Variables.{row_of_var}
 
 abbrev pub loop_of : Labels → (start test update body : Tree) → Loop
 loop_of labels a b c s = record { start = a; test = b; update = c; body = s; labels = labels }
+
+-- a text that stands as a part
+abbrev pub word_in : Tree → Option (List ℕ)
+word_in (Word x) = Some x
+word_in t = None
 
 -- the variable of a for-in: a name, or a `var` of one name
 abbrev pub name_of_target : Tree → Option (List ℕ)

@@ -1,16 +1,20 @@
 // The steps of statements, and what completions do.
-ghost use Rattle.std.specs.Prelude.{◌≡◌, ◌++◌, true, IfOk, length};
+ghost use Rattle.std.specs.Prelude.{◌≡◌, ◌++◌, true, IfOk, OnOk, length};
 ghost use Rattle.std.specs.Option.{option_map};
 ghost use Rattle.js_heap.specs.Chains.{IsBelow};
 ghost use Rattle.js_heap.specs.Scopes.{scope_number};
 ghost use Rattle.js_host.specs.There.{AreThere};
 ghost use Rattle.js_reference.specs.Hosted.{hosted};
+ghost use Rattle.js_reference.specs.Later.{IsLater};
 ghost use Rattle.js_term.specs.declared.context.Context.{Context};
 ghost use Rattle.js_tree.specs.Arena.{Arena};
 ghost use Rattle.js_stmt.specs.CodeRows.{HasOutermost, completion_names, meeting_touches};
-ghost use Rattle.js_stmt.specs.CodeRows.{progress_of, row_as, row_names, touches};
+ghost use Rattle.js_stmt.specs.CodeRows.{move_names, progress_of, row_as, row_names};
+ghost use Rattle.js_stmt.specs.CodeRows.{scope_entered, touches};
 ghost use Rattle.js_stmt.specs.Make.{control_meets, control_row};
 ghost use Rattle.js_stmt.specs.Parts.{Contracts, IsHeld, Meets, row_parts};
+ghost use Rattle.js_stmt.specs.Shapes.{IsNext, IsShaped};
+ghost use Rattle.js_stmt.specs.Wider.{IsWider};
 
 use crate::bodies::{body_finished, body_met};
 use crate::for_in::{for_in_met, into_name, list_names};
@@ -101,8 +105,14 @@ fn contract_world<H: Host>(
     requires there { AreThere heap.old
         (row_names row (operands.old.done ++ H.names.host host.old)) }
     requires scope { IsBelow (length heap.old.scopes) (option_map scope_number scope) }
-    ensures { (a : Arena) → IfOk result (λ m. Contracts (hosted H.rows) scope a row.entry
+    ensures value { (a : Arena) → IfOk result (λ m. Contracts (hosted H.rows) scope a row.entry
         operands.old heap.old host.old m operands.new heap.new host.new) }
+    ensures there { IfOk result (λ m.
+        AreThere heap.new (move_names m operands.new.done (H.names.host host.new))) }
+    ensures scope { IfOk result (λ m. IsBelow (length heap.new.scopes) (scope_entered m)) }
+    ensures phase { IfOk result (λ m. IsNext row.entry m) }
+    ensures shape { IfOk result (λ m. IsShaped m operands.new.todo) }
+    ensures more { OnOk result (IsLater heap.old heap.new) }
 {
     match row {
         StmtRow::Var { declarators, at } => {
@@ -133,8 +143,14 @@ pub fn contract_stmt<H: Host>(
     requires there { AreThere heap.old
         (row_names row (operands.old.done ++ H.names.host host.old)) }
     requires scope { IsBelow (length heap.old.scopes) (option_map scope_number scope) }
-    ensures { (a : Arena) → IfOk result (λ m. Contracts (hosted H.rows) scope a row.entry
+    ensures value { (a : Arena) → IfOk result (λ m. Contracts (hosted H.rows) scope a row.entry
         operands.old heap.old host.old m operands.new heap.new host.new) }
+    ensures there { IfOk result (λ m.
+        AreThere heap.new (move_names m operands.new.done (H.names.host host.new))) }
+    ensures scope { IfOk result (λ m. IsBelow (length heap.new.scopes) (scope_entered m)) }
+    ensures phase { IfOk result (λ m. IsNext row.entry m) }
+    ensures shape { IfOk result (λ m. IsShaped m operands.new.todo) }
+    ensures more { OnOk result (IsLater heap.old heap.new) }
 {
     if touches_world(row) {
         contract_world(alloc, row, operands, scope, heap, host)
@@ -180,11 +196,18 @@ fn meet_world<H: Host>(
 ) -> Result<StmtMove, NoMemory>
     requires touches { meeting_touches row ≡ true }
     requires outermost { HasOutermost script.now row }
+    requires held { IsHeld script.now (row_parts row) }
     requires there { AreThere heap.old
         (row_names row (completion_names completion (H.names.host host.old))) }
     requires scope { IsBelow (length heap.old.scopes) (option_map scope_number scope) }
-    ensures { IfOk result (λ m. Meets (hosted H.rows) scope script.now row.entry
+    ensures value { IfOk result (λ m. Meets (hosted H.rows) scope script.now row.entry
         completion heap.old host.old m operands.new heap.new host.new) }
+    ensures there { IfOk result (λ m.
+        AreThere heap.new (move_names m operands.new.done (H.names.host host.new))) }
+    ensures scope { IfOk result (λ m. IsBelow (length heap.new.scopes) (scope_entered m)) }
+    ensures phase { IfOk result (λ m. IsNext row.entry m) }
+    ensures shape { IfOk result (λ m. IsShaped m operands.new.todo) }
+    ensures more { OnOk result (IsWider heap.old heap.new) }
 {
     match row {
         StmtRow::ForInNames {
@@ -212,11 +235,18 @@ pub fn meet_stmt<H: Host>(
     host: &mut H,
 ) -> Result<StmtMove, NoMemory>
     requires outermost { HasOutermost script.now row }
+    requires held { IsHeld script.now (row_parts row) }
     requires there { AreThere heap.old
         (row_names row (completion_names completion (H.names.host host.old))) }
     requires scope { IsBelow (length heap.old.scopes) (option_map scope_number scope) }
-    ensures { IfOk result (λ m. Meets (hosted H.rows) scope script.now row.entry
+    ensures value { IfOk result (λ m. Meets (hosted H.rows) scope script.now row.entry
         completion heap.old host.old m operands.new heap.new host.new) }
+    ensures there { IfOk result (λ m.
+        AreThere heap.new (move_names m operands.new.done (H.names.host host.new))) }
+    ensures scope { IfOk result (λ m. IsBelow (length heap.new.scopes) (scope_entered m)) }
+    ensures phase { IfOk result (λ m. IsNext row.entry m) }
+    ensures shape { IfOk result (λ m. IsShaped m operands.new.todo) }
+    ensures more { OnOk result (IsWider heap.old heap.new) }
 {
     if meets_world(row) {
         meet_world(alloc, script, row, completion, operands, scope, heap, host)

@@ -10,10 +10,12 @@ ghost use Rattle.js_term.specs.declared.context.Context.{Context};
 ghost use Rattle.js_tree.specs.Arena.{Arena};
 ghost use Rattle.js_tree.specs.TreeAt.{tree_at};
 ghost use Rattle.js_stmt.specs.CodeRows.{after_answer, names_from, names_passed, progress_of};
-ghost use Rattle.js_stmt.specs.CodeRows.{labels_around, row_as};
+ghost use Rattle.js_stmt.specs.CodeRows.{completion_names, labels_around, move_names, row_as};
+ghost use Rattle.js_stmt.specs.CodeRows.{scope_entered};
 ghost use Rattle.js_stmt.specs.ForIn as for_in;
 ghost use Rattle.js_stmt.specs.Made.{Progress};
 ghost use Rattle.js_stmt.specs.Parts.{Contracts, Makes, Meets};
+ghost use Rattle.js_stmt.specs.Shapes.{IsNext, IsShaped};
 ghost use Rattle.js_stmt.specs.Steps.{only as only_of};
 ghost use Rattle.js_stmt.specs.declared.row.StmtRow.{StmtRow};
 ghost use Rattle.js_tree.specs.Trees.{at as part_at, one};
@@ -113,6 +115,12 @@ pub(crate) fn into_name<H: Host>(
     ensures value { (a : Arena) → IfOk result (λ m. Contracts (hosted H.rows) scope a
         (StmtRow.ForInNames parts.entry object.entry names.entry passed) operands.old
         heap.old host.old m operands.new heap.new host.new) }
+    ensures there { IfOk result (λ m.
+        AreThere heap.new (move_names m operands.new.done (H.names.host host.new))) }
+    ensures scope { IfOk result (λ m. IsBelow (length heap.new.scopes) (scope_entered m)) }
+    ensures phase { IfOk result (λ m. IsNext
+        (StmtRow.ForInNames parts.entry object.entry names.entry passed) m) }
+    ensures shape { IfOk result (λ m. IsShaped m operands.new.todo) }
     ensures more { OnOk result (IsLater heap.old heap.new) }
 {
     let Some(at) = still_there(alloc, object, names, passed, heap, host)? else {
@@ -143,6 +151,12 @@ fn continued<H: Host>(
     ensures value { IfOk result (λ m. Meets (hosted H.rows) scope script.now
         (StmtRow.ForInNames parts.entry object.entry names.entry passed)
         (Completion.Continue label) heap.old host.old m operands.new heap.new host.new) }
+    ensures there { IfOk result (λ m.
+        AreThere heap.new (move_names m operands.new.done (H.names.host host.new))) }
+    ensures scope { IfOk result (λ m. IsBelow (length heap.new.scopes) (scope_entered m)) }
+    ensures phase { IfOk result (λ m. IsNext
+        (StmtRow.ForInNames parts.entry object.entry names.entry passed) m) }
+    ensures shape { IfOk result (λ m. IsShaped m operands.new.todo) }
     ensures more { OnOk result (IsLater heap.old heap.new) }
 {
     if takes(script, parts.labelling, &label) {
@@ -155,6 +169,7 @@ fn continued<H: Host>(
 }
 
 /// The body has come to a completion.
+#[tactic(auto, using(crate::proofs::Brought::broken_there, crate::proofs::Brought::ended_scope, crate::proofs::Shaped::ended_next, crate::proofs::Shaped::ended_shaped))]
 pub(crate) fn for_in_met<H: Host>(
     alloc: Global,
     script: &Script,
@@ -169,11 +184,18 @@ pub(crate) fn for_in_met<H: Host>(
     host: &mut H,
 ) -> Result<StmtMove, NoMemory>
     requires outermost { parts.labelling.outermost.number < length script.now.kept }
-    requires there { AreThere heap.old (object.now ∷ H.names.host host.old) }
+    requires there { AreThere heap.old
+        (object.now ∷ completion_names completion (H.names.host host.old)) }
     requires scope { IsBelow (length heap.old.scopes) (option_map scope_number scope) }
     ensures value { IfOk result (λ m. Meets (hosted H.rows) scope script.now
         (StmtRow.ForInNames parts.entry object.entry names.entry passed)
         completion heap.old host.old m operands.new heap.new host.new) }
+    ensures there { IfOk result (λ m.
+        AreThere heap.new (move_names m operands.new.done (H.names.host host.new))) }
+    ensures scope { IfOk result (λ m. IsBelow (length heap.new.scopes) (scope_entered m)) }
+    ensures phase { IfOk result (λ m. IsNext
+        (StmtRow.ForInNames parts.entry object.entry names.entry passed) m) }
+    ensures shape { IfOk result (λ m. IsShaped m operands.new.todo) }
     ensures more { OnOk result (IsLater heap.old heap.new) }
 {
     match completion {

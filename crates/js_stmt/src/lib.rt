@@ -2,19 +2,15 @@
 #![tactic(auto)]
 
 mod bodies;
-mod call_names;
-mod call_scope;
 mod contract;
 mod for_in;
 mod found;
-mod function_parts;
 mod jumps;
 mod kept;
 mod labelling;
 mod loops;
 mod node_rows;
 mod operand_lists;
-mod page_calls;
 mod phase;
 mod row;
 mod scopes;
@@ -23,11 +19,11 @@ mod switches;
 mod tries;
 mod variables;
 
-pub use call_names::CallNames;
 pub use contract::{contract_stmt, meet_stmt};
 pub use kept::StmtKept;
 pub use node_rows::stmt_row_of;
-pub use page_calls::{Entered, call_function};
+pub use operand_lists::restart;
 pub use phase::StmtPhase;
 pub use row::{ForInParts, Labelling, LoopParts, StmtRow, SwitchParts};
+pub use scopes::new_scope;
 pub use stmt_move::StmtMove;

@@ -45,12 +45,8 @@ pub(crate) fn push_nodes(operands: &mut Operands, ids: &[NodeId]) -> Result<(), 
     Ok(())
 }
 
-// These nodes in place of all operands.
-pub(crate) fn restart(
-    alloc: Global,
-    operands: &mut Operands,
-    ids: &[NodeId],
-) -> Result<(), NoMemory>
+/// These nodes in place of all operands.
+pub fn restart(alloc: Global, operands: &mut Operands, ids: &[NodeId]) -> Result<(), NoMemory>
     ensures { OnOk result (operands.new ≡ fresh ids.now) }
 {
     *operands = Operands::new(alloc);

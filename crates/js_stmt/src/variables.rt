@@ -9,7 +9,9 @@ ghost use Rattle.js_reference.specs.Later.{IsLater};
 ghost use Rattle.js_tree.specs.Arena.{Arena};
 ghost use Rattle.js_tree.specs.TreeAt.{perhaps_tree, tree_at};
 ghost use Rattle.js_stmt.specs.CodeRows.{after_answer, declarators_as, initialised_from};
+ghost use Rattle.js_stmt.specs.CodeRows.{move_names, scope_entered};
 ghost use Rattle.js_stmt.specs.Parts.{Contracts, Makes};
+ghost use Rattle.js_stmt.specs.Shapes.{IsNext, IsShaped};
 ghost use Rattle.js_stmt.specs.Steps.{only as only_of};
 ghost use Rattle.js_stmt.specs.Variables as var_steps;
 ghost use Rattle.js_stmt.specs.declared.row.StmtRow.{StmtRow};
@@ -96,6 +98,11 @@ pub(crate) fn initialised<H: Host>(
     ensures value { (a : Arena) → IfOk result (λ m. Contracts (hosted H.rows) scope a
         (StmtRow.Var declarators.entry place) operands.old heap.old host.old
         m operands.new heap.new host.new) }
+    ensures there { IfOk result (λ m.
+        AreThere heap.new (move_names m operands.new.done (H.names.host host.new))) }
+    ensures scope { IfOk result (λ m. IsBelow (length heap.new.scopes) (scope_entered m)) }
+    ensures phase { IfOk result (λ m. IsNext (StmtRow.Var declarators.entry place) m) }
+    ensures shape { IfOk result (λ m. IsShaped m operands.new.todo) }
     ensures more { OnOk result (IsLater heap.old heap.new) }
 {
     if place >= declarators.len() {

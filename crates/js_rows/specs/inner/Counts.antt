@@ -6,7 +6,7 @@ use Rattle.js_value.specs.declared.value.Value.TheVariants as value
 use Rattle.js_heap.specs.World.{World}
 use Rattle.js_reference.specs.Errors.{Answer}
 use Rattle.js_reference.specs.Errors.Answer.{Returns, Throws}
-use Rattle.js_stmt.specs.Programs.{declare_program}
+use Rattle.js_calls.specs.Programs.{declare_program}
 use Rattle.js_term.specs.Contraction.{Contraction}
 use Rattle.js_term.specs.Contraction.Contraction.{Steps}
 use Rattle.js_term.specs.Place.{Placed}

@@ -5,12 +5,12 @@ use Rattle.js_reference.specs.Hosted.{hosted}
 use Rattle.js_reference.specs.Names.{read_name}
 use Rattle.js_reference.specs.Properties.{read}
 use Rattle.js_tree.specs.TreeAt.{tree_at}
-use Rattle.js_control.proofs.Guards.{next_made}
-use Rattle.js_control.specs.Calls.{call_node}
-use Rattle.js_control.specs.ExprMoves.{later_row, made_of}
-use Rattle.js_control.specs.Rows.{ExprRow}
-use Rattle.js_control.specs.Steps.{goes_on, operand_at, with_value}
-use Rattle.js_control.specs.declared.row.Phase.TheVariants as phase
+use Rattle.js_operands.proofs.Guards.{next_made}
+use Rattle.js_operands.specs.Steps.{call_node}
+use Rattle.js_operands.specs.ExprMoves.{later_row, made_of}
+use Rattle.js_operands.specs.Rows.{ExprRow}
+use Rattle.js_operands.specs.Steps.{goes_on, operand_at, with_value}
+use Rattle.js_operands.specs.declared.row.Phase.TheVariants as phase
 use Rattle.js_control.proofs.assignments.revise_member.Goals as goal
 
 pub returns-clause-value : goal.returns-clause-value

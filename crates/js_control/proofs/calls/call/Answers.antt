@@ -1,21 +1,22 @@
-use Rattle.std.proofs.Common.{◌≡◌, List, Some, drop, ap, subst, sym, ◌∙◌}
+use Rattle.std.proofs.Common.{◌≡◌, List, IfSome, Some, drop, refl, ap, subst, sym, ◌∙◌}
 use Rattle.js_value.specs.declared.value.Value.{Value}
 use Rattle.js_host.specs.Natives as natives
 use Rattle.js_host.specs.There.{AreThere}
 use Rattle.js_reference.specs.Callables.{native_of}
 use Rattle.js_reference.specs.Hosted.{hosted}
-use Rattle.js_control.proofs.Guards.{converts_of, none_of, ready_of}
-use Rattle.js_control.proofs.Requests.{call_named, request_made, request_there}
+use Rattle.js_operands.proofs.Guards.{converts_of, none_of, ready_of}
+use Rattle.js_control.proofs.Requests.{call_named, request_made, request_shaped, request_there}
 use Rattle.js_control.proofs.Windows.{window_there}
 use Rattle.js_control.specs.Calls.{call_with, on_window}
-use Rattle.js_control.specs.Conversions.{hints, prepared}
-use Rattle.js_control.specs.ExprMoves.{operand_names}
-use Rattle.js_control.specs.Made.{Made}
-use Rattle.js_control.specs.Rows.{ExprRow}
-use Rattle.js_control.specs.Steps.{operand_at}
-use Rattle.js_control.specs.declared.expr_move.ExprMove.TheVariants as move
-use Rattle.js_control.specs.declared.row.Phase.TheVariants as phase
-use Rattle.js_control.specs.declared.wants.Wants.TheVariants as wants
+use Rattle.js_operands.specs.Conversions.{hints, prepared}
+use Rattle.js_operands.specs.ExprMoves.{operand_names}
+use Rattle.js_operands.specs.Made.{Made}
+use Rattle.js_operands.specs.Rows.{ExprRow}
+use Rattle.js_operands.specs.Shapes.{IsShaped}
+use Rattle.js_operands.specs.Steps.{operand_at}
+use Rattle.js_operands.specs.declared.expr_move.ExprMove.TheVariants as move
+use Rattle.js_operands.specs.declared.row.Phase.TheVariants as phase
+use Rattle.js_operands.specs.declared.wants.Wants.TheVariants as wants
 use Rattle.js_control.proofs.calls.call.Goals as goal
 
 pub returns-in-Some-clause-value : goal.returns-in-Some-clause-value
@@ -61,3 +62,15 @@ returns-clause-there g c =
     let named = subst (λ u. AreThere u (operand_names e' hs)) (sym stays.1) (subst (λ y. AreThere w (operand_names y hs)) (sym stays.0) on) in
     let own = subst (λ u. AreThere u (operand_names c.args.operands.now hs)) (sym stays.1) c.requires.there in
     request_there c.request.result (move.Calls (operand_at e'.done 0) (call_with (operand_at e'.done 1) (drop 2 e'.done))) w' (operand_names c.args.operands.now hs) c.request.ensures (call_named w' e' hs (operand_names c.args.operands.now hs) named own)
+
+pub returns-in-Some-clause-shape : goal.returns-in-Some-clause-shape
+returns-in-Some-clause-shape g c =
+    let next = Some phase.CallOn in
+    let e = c.args.operands.now in
+    let none : e.todo ≡ c.in_ok-on.on.todo = c.requires.coming ∙ sym (ap (λ x. x.todo) c.in_ok-on.ensures.value) in
+    subst (λ o. IfSome o (λ m. IsShaped next e c.prepared.new.operands m)) c.in-Some.is (c.in_ok-moved.ensures.shape next e refl none)
+
+pub returns-clause-shape : goal.returns-clause-shape
+returns-clause-shape g c =
+    let e' = c.prepared.new.operands in
+    request_shaped c.request.result (operand_at e'.done 0) (call_with (operand_at e'.done 1) (drop 2 e'.done)) (Some phase.CallOn) c.args.operands.now c.args.operands.now c.request.ensures refl

@@ -1,19 +1,20 @@
-use Rattle.std.proofs.Common.{◌≡◌, None, drop, ap, subst, sym, ◌∙◌}
+use Rattle.std.proofs.Common.{◌≡◌, None, drop, ap, subst, sym, ◌∙◌, refl}
 use Rattle.js_value.specs.declared.value.Value.{Value}
 use Rattle.js_host.specs.Natives as natives
 use Rattle.js_host.specs.There.{AreThere}
 use Rattle.js_reference.specs.Callables.{native_of}
 use Rattle.js_reference.specs.Hosted.{hosted}
-use Rattle.js_control.proofs.Guards.{converts_of, none_of, ready_of}
-use Rattle.js_control.proofs.Requests.{new_named, request_made, request_there}
+use Rattle.js_operands.proofs.Guards.{converts_of, none_of, ready_of}
+use Rattle.js_control.proofs.Requests.{new_named, request_made, request_shaped, request_there}
 use Rattle.js_control.specs.Calls.{call_with, new_with}
-use Rattle.js_control.specs.Conversions.{hints, prepared}
-use Rattle.js_control.specs.ExprMoves.{operand_names}
-use Rattle.js_control.specs.Made.{Made}
-use Rattle.js_control.specs.Rows.{ExprRow}
-use Rattle.js_control.specs.Steps.{operand_at}
-use Rattle.js_control.specs.declared.expr_move.ExprMove.TheVariants as move
-use Rattle.js_control.specs.declared.wants.Wants.TheVariants as wants
+use Rattle.js_operands.specs.Conversions.{hints, prepared}
+use Rattle.js_operands.specs.ExprMoves.{operand_names}
+use Rattle.js_operands.specs.Made.{Made}
+use Rattle.js_operands.specs.Rows.{ExprRow}
+use Rattle.js_operands.specs.Steps.{operand_at}
+use Rattle.js_operands.specs.declared.expr_move.ExprMove.TheVariants as move
+use Rattle.js_operands.specs.declared.wants.Wants.TheVariants as wants
+use Rattle.js_operands.proofs.Shaped.{some_so}
 use Rattle.js_control.proofs.calls.new_object.Goals as goal
 
 pub returns-in-Some-clause-value : goal.returns-in-Some-clause-value
@@ -52,3 +53,14 @@ returns-clause-there g c =
     let stays = none_of c.in_ok-moved.field-0 _ _ c.in-None.is c.in_ok-moved.ensures.stays in
     let named = subst (λ u. AreThere u (operand_names e' hs)) (sym stays.1) (subst (λ y. AreThere c.args.heap.now (operand_names y hs)) (sym stays.0) c.requires.there) in
     request_there c.new_request.result (move.Calls (operand_at e'.done 0) (new_with (drop 1 e'.done))) w' (operand_names e' hs) c.new_request.ensures (new_named w' e' hs (operand_names e' hs) named named)
+
+pub returns-clause-shape : goal.returns-clause-shape
+returns-clause-shape g c = λ n.
+    let e' = c.prepared.new.operands in
+    let stays = none_of c.in_ok-moved.field-0 _ _ c.in-None.is c.in_ok-moved.ensures.stays in
+    request_shaped c.new_request.result (operand_at e'.done 0) (new_with (drop 1 e'.done)) n c.args.operands.now e' c.new_request.ensures stays.0
+
+pub returns-in-Some-clause-shape : goal.returns-in-Some-clause-shape
+returns-in-Some-clause-shape g c = λ n.
+    let e = c.args.operands.now in
+    some_so n e c.prepared.new.operands c.in-Some.moved c.in_ok-moved.field-0 c.in-Some.is (c.in_ok-moved.ensures.shape n e tt refl)

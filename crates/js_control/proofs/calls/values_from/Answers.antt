@@ -1,5 +1,5 @@
 use Rattle.std.proofs.Common.{◌+◌, ◌++◌, drop, ap, ◌∙◌}
-use Rattle.js_control.proofs.Waiting.{more_from}
+use Rattle.js_operands.proofs.Waiting.{more_from}
 use Rattle.js_control.proofs.calls.values_from.Goals as goal
 
 pub loop-place-preserved : goal.loop-place-preserved

@@ -7,13 +7,14 @@ use Rattle.js_operations.specs.Converted.{IsConverted}
 use Rattle.js_operations.specs.Operations.{operate, operation, operation_wants}
 use Rattle.js_reference.specs.Answers.{answer}
 use Rattle.js_reference.specs.Hosted.{hosted}
-use Rattle.js_control.proofs.Guards.{given_after, none_of, ready_of}
-use Rattle.js_control.proofs.Operands.{held_there}
+use Rattle.js_operands.proofs.Guards.{given_after, none_of, ready_of}
+use Rattle.js_operands.proofs.Operands.{held_there}
 use Rattle.js_control.proofs.Pairs.{at_first, at_next, is_converted}
-use Rattle.js_control.specs.Conversions.{hints, prepared}
-use Rattle.js_control.specs.ExprMoves.{operand_names, values_coming}
+use Rattle.js_operands.specs.Conversions.{hints, prepared}
+use Rattle.js_operands.specs.ExprMoves.{operand_names, values_coming}
 use Rattle.js_control.specs.Operators.{operator_wants}
-use Rattle.js_control.specs.Steps.{operand_at}
+use Rattle.js_operands.specs.Steps.{operand_at}
+use Rattle.js_operands.proofs.Shaped.{some_so}
 use Rattle.js_control.proofs.operated.operated.Goals as goal
 
 pub operate-requires-clause-there : goal.operate-requires-clause-there
@@ -83,3 +84,8 @@ returns-clause-value g c =
     ∙ ap (λ o. operate O w1 h o c.operand-left.result.now c.operand-right.result.now) (sym c.of.ensures) ∙ c.in_ok-answered.ensures.value in
     given_after (λ r made. prepared O w h r wants vs made) (λ u y k. operate O u h op (operand_at y.done n) (operand_at y.done (suc n))) e e' w w1 c.operate.new.heap h [] [] c.in_ok-answered.answered
     (λ r made. subst (λ f. prepared O w h r f vs made ≡ made) c.operator_hints-wants.ensures (ready.made r made)) given stays.1 stays.0 refl
+
+pub returns-in-Some-clause-shape : goal.returns-in-Some-clause-shape
+returns-in-Some-clause-shape g c = λ n.
+    let e = c.args.operands.now in
+    some_so n e c.prepared.new.operands c.in-Some.moved c.in_ok-moved.field-0 c.in-Some.is (c.in_ok-moved.ensures.shape n e tt refl)

@@ -5,10 +5,11 @@ use Rattle.js_operations.specs.Converted.{IsConverted}
 use Rattle.js_operations.specs.Unary.{unary_operate, unary_wants}
 use Rattle.js_reference.specs.Answers.{answer}
 use Rattle.js_reference.specs.Hosted.{hosted}
-use Rattle.js_control.proofs.Guards.{given_after, none_of, ready_of}
+use Rattle.js_operands.proofs.Guards.{given_after, none_of, ready_of}
 use Rattle.js_control.proofs.Pairs.{at_first, is_converted}
-use Rattle.js_control.specs.Conversions.{prepared, wants_at}
-use Rattle.js_control.specs.Steps.{operand_at}
+use Rattle.js_operands.specs.Conversions.{prepared, wants_at}
+use Rattle.js_operands.specs.Steps.{operand_at}
+use Rattle.js_operands.proofs.Shaped.{some_so}
 use Rattle.js_control.proofs.operators.operated_alone.Goals as goal
 
 pub unary_operate-requires-clause-converted : goal.unary_operate-requires-clause-converted
@@ -40,3 +41,8 @@ returns-clause-value g c =
     ap (unary_operate w1 h o) (sym c.operand.ensures.value) ∙ c.in_ok-answered.ensures.value in
     given_after (λ r made. prepared O w h r (wants_at 0 (unary_wants o 0) None) vs made) (λ u y z. unary_operate u h o (operand_at y.done 0)) e e' w w1 c.unary_operate.new.heap h [] [] c.in_ok-answered.answered
     (λ r made. subst (λ j. prepared O w h r (wants_at 0 j None) vs made ≡ made) (c.unary_wants.ensures 0) (ready.made r made)) given stays.1 stays.0 refl
+
+pub returns-in-Some-clause-shape : goal.returns-in-Some-clause-shape
+returns-in-Some-clause-shape g c = λ n.
+    let e = c.args.operands.now in
+    some_so n e c.prepared.new.operands c.in-Some.moved c.in_ok-moved.field-0 c.in-Some.is (c.in_ok-moved.ensures.shape n e tt refl)

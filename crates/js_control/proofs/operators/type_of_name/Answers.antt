@@ -1,7 +1,7 @@
 use Rattle.std.proofs.Common.{List, ◌++◌}
 use Rattle.js_value.specs.declared.value.Value.{Value}
-use Rattle.js_control.specs.ExprMoves.{values_coming}
-use Rattle.js_control.proofs.Operands.{held_there}
+use Rattle.js_operands.specs.ExprMoves.{values_coming}
+use Rattle.js_operands.proofs.Operands.{held_there}
 use Rattle.js_control.proofs.operators.type_of_name.Goals as goal
 
 pub name_value-requires-clause-there : goal.name_value-requires-clause-there

@@ -1,10 +1,11 @@
 use Rattle.std.proofs.Common.{None, ◌∙◌}
 use Rattle.js_operations.specs.Unary.{unary_operate, unary_wants}
 use Rattle.js_reference.specs.Hosted.{hosted}
-use Rattle.js_control.proofs.Guards.{given_of}
-use Rattle.js_control.specs.Conversions.{prepared, wants_at}
-use Rattle.js_control.specs.Rows.{ExprRow}
-use Rattle.js_control.specs.Steps.{gives, operand_at}
+use Rattle.js_operands.proofs.Guards.{given_of}
+use Rattle.js_operands.specs.Conversions.{prepared, wants_at}
+use Rattle.js_operands.specs.Rows.{ExprRow}
+use Rattle.js_operands.specs.Steps.{gives, operand_at}
+use Rattle.js_operands.proofs.Shaped.{moved_so}
 use Rattle.js_control.proofs.operators.unary.Goals as goal
 
 pub returns-in-Gives-clause-value : goal.returns-in-Gives-clause-value
@@ -21,3 +22,11 @@ returns-in-Gives-clause-value g c = λ a.
     let wants = wants_at 0 (unary_wants o 0) None in
     let given = given_of (λ r made. prepared O w h r wants vs made) op e e' w' h c.in_ok-moved.field-0 c.in-Gives.answered c.in-Gives.is c.in_ok-moved.ensures.value in
     given.made (ExprRow.Unary o) gives ∙ c.given.ensures.made a (ExprRow.Unary o) e' w' h
+
+pub returns-in-Moves-clause-shape : goal.returns-in-Moves-clause-shape
+returns-in-Moves-clause-shape g c = λ n.
+    moved_so n c.args.operands.now c.operated_alone.new.operands c.in-Moves.moved c.in_ok-moved.field-0 c.in-Moves.is (c.in_ok-moved.ensures.shape n)
+
+pub returns-in-Gives-clause-shape : goal.returns-in-Gives-clause-shape
+returns-in-Gives-clause-shape g c = λ n.
+    c.given.ensures.shape n c.args.operands.now c.operated_alone.new.operands

@@ -1,17 +1,18 @@
-use Rattle.std.proofs.Common.{◌≡◌, Option, Some, None, ap, subst, sym, ◌∙◌}
+use Rattle.std.proofs.Common.{◌≡◌, Option, Some, None, ap, subst, sym, ◌∙◌, refl}
 use Rattle.js_value.specs.Image.{IsPrimitive}
 use Rattle.js_ops.specs.declared.equality.Hint.{Hint}
 use Rattle.js_ops.specs.declared.equality.Hint.TheVariants as hint
 use Rattle.js_reference.specs.Errors.{thrown}
 use Rattle.js_reference.specs.Hosted.{hosted}
 use Rattle.js_reference.specs.declared.error.ErrorName.TheVariants.{RangeError}
-use Rattle.js_control.proofs.Guards.{none_of, ready_of}
+use Rattle.js_operands.proofs.Guards.{none_of, ready_of}
 use Rattle.js_control.proofs.Pairs.{at_first}
 use Rattle.js_control.proofs.Storing.{stored_nothing}
-use Rattle.js_control.specs.Conversions.{wants_at}
-use Rattle.js_control.specs.ExprMoves.{made_of}
-use Rattle.js_control.specs.Steps.{gives, operand_at}
+use Rattle.js_operands.specs.Conversions.{wants_at}
+use Rattle.js_operands.specs.ExprMoves.{made_of}
+use Rattle.js_operands.specs.Steps.{gives, operand_at}
 use Rattle.js_control.specs.Stored.{AreNext}
+use Rattle.js_operands.proofs.Shaped.{some_so}
 use Rattle.js_control.proofs.updates.target_numbers.Goals as goal
 
 pub numbers-requires : goal.numbers-requires
@@ -42,3 +43,12 @@ returns-clause-value g c = λ a r s put.
     let given : gives (thrown RangeError w h) ≡ made_of a r e' c.given.result w' h =
     ap (λ y. gives (thrown RangeError y h)) (sym stays.1) ∙ ap gives c.in_ok-answered-in-None.ensures.value ∙ c.given.ensures.made a r e' w' h in
     stored_nothing O w h n c.args.operator e ready.made none r s put (made_of a r e' c.given.result w' h) given
+
+pub returns-in-Some-clause-shape : goal.returns-in-Some-clause-shape
+returns-in-Some-clause-shape g c = λ n.
+    let e = c.args.operands.now in
+    some_so n e c.prepared.new.operands c.in-Some.moved c.in_ok-moved.field-0 c.in-Some.is (c.in_ok-moved.ensures.shape n e tt refl)
+
+pub returns-clause-shape : goal.returns-clause-shape
+returns-clause-shape g c = λ n.
+    c.given.ensures.shape n c.args.operands.now c.prepared.new.operands

@@ -3,11 +3,11 @@ use Rattle.js_value.specs.declared.value.Value.{Value}
 use Rattle.js_reference.specs.Answers.{answer}
 use Rattle.js_reference.specs.Hosted.{hosted}
 use Rattle.js_reference.specs.Names.{read_name}
-use Rattle.js_control.proofs.Guards.{next_made}
-use Rattle.js_control.specs.ExprMoves.{later_row, made_of}
-use Rattle.js_control.specs.Rows.{ExprRow}
-use Rattle.js_control.specs.Steps.{goes_on, with_value}
-use Rattle.js_control.specs.declared.row.Phase.TheVariants as phase
+use Rattle.js_operands.proofs.Guards.{next_made}
+use Rattle.js_operands.specs.ExprMoves.{later_row, made_of}
+use Rattle.js_operands.specs.Rows.{ExprRow}
+use Rattle.js_operands.specs.Steps.{goes_on, with_value}
+use Rattle.js_operands.specs.declared.row.Phase.TheVariants as phase
 use Rattle.js_control.proofs.updates.update_name.Goals as goal
 
 pub returns-clause-value : goal.returns-clause-value

@@ -6,7 +6,7 @@ use Rattle.js_stmt.specs.Make.{control_row}
 use Rattle.js_stmt.specs.Parts.{IsHeld, row_parts}
 use Rattle.js_stmt.specs.declared.row.StmtRow.{StmtRow}
 use Rattle.js_stmt.specs.declared.row.StmtRow.TheVariants as code
-use Rattle.js_stmt.proofs.MoveRows.{case_moves, ended, loop_moves}
+use Rattle.js_stmt.proofs.MoveRows.{case_moves, loop_moves}
 use Rattle.js_stmt.proofs.MoveRows.LoopRow.{IsDoWhile, IsFor, IsStart, IsTest, IsUpdate, IsWhile}
 use Rattle.js_stmt.proofs.contract.contract_control.Goals as goal
 

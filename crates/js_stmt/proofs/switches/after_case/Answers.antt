@@ -1,4 +1,4 @@
-use Rattle.std.proofs.Common.{◌≡◌, IfOk, Some, ap, drop, subst, sym, ◌∙◌}
+use Rattle.std.proofs.Common.{IfOk, Some, ap, drop, subst, sym, ◌∙◌}
 use Rattle.js_tree.specs.Trees.{cases}
 use Rattle.js_stmt.specs.CodeRows.{clauses_as, labels_around}
 use Rattle.js_stmt.specs.Parts.{Makes}

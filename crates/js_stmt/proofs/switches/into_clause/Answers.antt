@@ -1,4 +1,4 @@
-use Rattle.std.proofs.Common.{◌≡◌, Option, Some, None, ap, drop, refl, sym, ◌∙◌}
+use Rattle.std.proofs.Common.{ap, drop, refl, sym, ◌∙◌}
 use Rattle.std.proofs.lemmas.Result.{IfOk-weaker}
 use Rattle.std.specs.Option.{option_map}
 use Rattle.js_term.specs.Evaluation.{Evaluation}

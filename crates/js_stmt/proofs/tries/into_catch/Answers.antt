@@ -1,4 +1,4 @@
-use Rattle.std.proofs.Common.{◌≡◌, true, ap, arith, ◌∙◌}
+use Rattle.std.proofs.Common.{◌≡◌, true, ap, ◌∙◌}
 use Rattle.js_reference.specs.Room.{scopes_fit}
 use Rattle.js_stmt.specs.CodeRows.{finally_as, fresh}
 use Rattle.js_stmt.proofs.CatchSteps.{caught}

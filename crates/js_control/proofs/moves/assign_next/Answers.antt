@@ -1,7 +1,0 @@
-use Rattle.js_control.proofs.Operands.{added_first}
-use Rattle.js_control.proofs.moves.assign_next.Goals as goal
-
-pub returns-in_ok-add_value-in-Returns-clause-there : goal.returns-in_ok-add_value-in-Returns-clause-there
-returns-in_ok-add_value-in-Returns-clause-there g c = λ w vs a.
-    added_first w c.args.answered c.in-Returns.value c.args.count c.args.operands.now c.in_ok-operands-in-Returns.field-0 c.add_value.new.operands vs
-    c.in-Returns.is c.requires c.in_ok-operands-in-Returns.ensures c.in_ok-add_value-in-Returns.ensures a

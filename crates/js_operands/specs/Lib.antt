@@ -1,0 +1,13 @@
+pub mod Rows
+pub mod Made
+pub mod Setting
+pub mod Hosted
+pub mod Steps
+pub mod Conversions
+pub mod Handlers
+pub mod Syntax
+pub mod ExprMoves
+pub mod Prepared
+pub mod Keyed
+pub mod ArenaRows
+pub mod Shapes
