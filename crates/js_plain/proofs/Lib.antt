@@ -1,0 +1,10 @@
+pub mod Common
+pub mod Tables
+pub mod Objects
+pub mod Scopes
+pub mod Values
+pub mod Reading
+pub mod Writing
+pub mod Calm
+pub mod Operators
+pub mod Literals

@@ -1,0 +1,4 @@
+pub mod Images
+pub mod Heaps
+pub mod Operations
+pub mod Operators

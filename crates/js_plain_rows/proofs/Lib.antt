@@ -1,0 +1,4 @@
+pub mod Lists
+pub mod Conversions
+pub mod Expressions
+pub mod Statements
