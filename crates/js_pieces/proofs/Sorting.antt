@@ -1,5 +1,6 @@
 -- Which pieces are of a sort.
-use Rattle.std.proofs.Common.{◌≡◌, ◌⊎◌, inl, inr, ℕ, Bool, true, false, List, [], ◌∷◌, Option, Some, None, Result, Ok, Err, IfOk, refl, sym, ◌∙◌, ap, subst}
+use Rattle.std.proofs.Common.{◌≡◌, ◌⊎◌, inl, inr, ℕ, Bool, true, false, List, [], ◌∷◌, ◌++◌, length, reverse, Option, Some, None, Result, Ok, Err, IfOk, refl, sym, ◌∙◌, ap, subst}
+use Rattle.std.proofs.lemmas.List.{reverse-append}
 use Rattle.mug_text.specs.declared.memory.NoMemory.{NoMemory}
 use Rattle.js_tree.specs.declared.node.NodeId.{NodeId}
 use Rattle.js_tree.specs.declared.node.Declarator.{Declarator}
@@ -12,7 +13,7 @@ use Rattle.js_pieces.specs.declared.pieces.Piece.{Piece}
 use Rattle.js_pieces.specs.declared.pieces.Piece.TheVariants as piece
 use Rattle.js_pieces.specs.declared.pieces.ReadBody.{ReadBody}
 use Rattle.js_pieces.specs.declared.pieces.WholeText.{WholeText}
-use Rattle.js_pieces.specs.Pieces.{AreNamed, IsPart, LastIs, Takes, joined, sort_of, sort_of_value, sort_of_all}
+use Rattle.js_pieces.specs.Pieces.{AreNamed, IsPart, LastIs, Takes, joined, sort_of, sort_of_value, sort_of_all, last}
 
 clash : {b : Bool} → b ≡ false → b ≡ true → ⊥
 clash f t = cc
@@ -164,3 +165,11 @@ takes_as part r x q p old new same e is h = subst (λ z. Takes old new (part z))
 
 pub if_as : {A : Type 0} (r s : Result A NoMemory) (P : A → Type 0) → r ≡ s → IfOk s P → IfOk r P
 if_as r s P e h = subst (λ z. IfOk z P) (sym e) h
+
+-- the last piece of those that stand the other way round
+pub last_there : (all items front : List Piece) (p : Piece) → reverse items ≡ all → items ≡ front ++ p ∷ [] → last all ≡ Some p
+last_there all items front p view e = sym (ap last view) ∙ ap (λ z. last (reverse z)) e ∙ ap last (reverse-append front (p ∷ []))
+
+pub none_there : (all items : List Piece) → reverse items ≡ all → length items ≡ 0 → last all ≡ None
+none_there all [] view e = sym (ap last view)
+none_there all (q ∷ qs) view e = cc

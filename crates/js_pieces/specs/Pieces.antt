@@ -86,6 +86,10 @@ abbrev pub sorts : List Piece → List Sort
 sorts [] = []
 sorts (q ∷ qs) = sort_of q ∷ sorts qs
 
+abbrev pub last : List Piece → Option Piece
+last [] = None
+last (q ∷ qs) = Some q
+
 -- the last piece is of this sort
 abbrev pub LastIs : Sort → List Piece → Type 0
 LastIs c [] = ⊥

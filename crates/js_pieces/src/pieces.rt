@@ -1,10 +1,12 @@
 // What was read and isn't part of a node yet.
 ghost use Rattle.std.specs.Prelude.{◌≡◌, ◌∷◌, [], List, Some, IfOk, OnOk};
+ghost use Rattle.std.specs.Option.{option_copied};
 ghost use Rattle.js_tree.specs.declared.node.NodeId.{NodeId};
 ghost use Rattle.js_tree.specs.Trees.{at, perhaps, named, nodes, at_last, elements, words, declarators, entries, cases, caught, Part};
 ghost use Rattle.js_grammar.specs.inner.Sorts.{Sort};
 ghost use Rattle.js_grammar.specs.inner.Sorts as sort;
 ghost use Rattle.js_pieces.specs.declared.pieces.Piece.TheVariants as piece;
+ghost use Rattle.js_pieces.specs.Pieces as pieces;
 ghost use Rattle.js_pieces.specs.Pieces.{AreNamed, LastIs, Takes};
 
 use js_tree::{Braces, Case, Catch, Declarator, Entry, NodeId, Production};
@@ -228,6 +230,14 @@ impl Pieces {
             Piece::Missing => None,
             _ => unreachable!(),
         }
+    }
+
+    /// The last piece.
+    pub fn last(&self) -> Option<&Piece>
+        ensures { option_copied result ≡ pieces.last self.now }
+    {
+        let (piece, _) = self.items.as_slice().split_last()?;
+        Some(piece)
     }
 
     pub(crate) fn pop_body(&mut self) -> ReadBody

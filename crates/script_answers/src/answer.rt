@@ -1,10 +1,15 @@
 // What is printed for a line.
+ghost use Rattle.std.specs.Prelude.{◌≤◌, length, IfOk};
+ghost use Rattle.js_parser.specs.declared.reading.TheConstants.{SCRIPT_LIMIT};
+
 use crate::listing::listing;
+use crate::printing::show;
 use crate::scopes::scope_of;
-use js_answers::{Forest, PlainAnswer, plain_answer};
-use js_grammar::{Names, Start};
-use js_tokens::{LexFault, Tokens, tokens};
-use mug_text::NoMemory;
+use js_grammar::Names;
+use js_parser::{SCRIPT_LIMIT, SyntaxFault, read_handler, read_script};
+use js_tokens::{LexFault, tokens};
+use js_tree::Script;
+use mug_text::{JText, NoMemory};
 use std::alloc::Global;
 use written_text::written_text;
 
@@ -18,32 +23,61 @@ pub fn answer_of(alloc: Global, line: &str) -> Result<String, NoMemory> {
         return scope_of(alloc, written);
     }
     if let Some(text) = line.strip_prefix("tree ") {
-        return answer(alloc, text, Names::Page, Start::Program, true);
+        return answer(alloc, script(alloc, text, Names::Page)?, true);
     }
     if let Some(text) = line.strip_prefix("page ") {
-        return answer(alloc, text, Names::Page, Start::Program, false);
+        return answer(alloc, script(alloc, text, Names::Page)?, false);
     }
     if let Some(text) = line.strip_prefix("hidden ") {
-        return answer(alloc, text, Names::Hidden, Start::Program, false);
+        return answer(alloc, script(alloc, text, Names::Hidden)?, false);
     }
     if let Some(text) = line.strip_prefix("handler ") {
-        return answer(alloc, text, Names::Page, Start::Handler, false);
+        return answer(alloc, handler(alloc, text)?, false);
     }
     Ok(String::from_str(alloc, "no page, hidden, handler, tree, tokens or scope")?)
 }
 
-fn answer(
+fn script(
     alloc: Global,
     written: &str,
     names: Names,
-    start: Start,
+) -> Result<Result<Script, SyntaxFault>, NoMemory> {
+    let text = text_of(alloc, written)?;
+    Ok(read_script(alloc, &text, names))
+}
+
+fn handler(alloc: Global, written: &str) -> Result<Result<Script, SyntaxFault>, NoMemory> {
+    let text = text_of(alloc, written)?;
+    Ok(read_handler(alloc, &text))
+}
+
+// A text above the limit of scripts is answered as want of memory.
+fn text_of(alloc: Global, written: &str) -> Result<JText, NoMemory>
+    ensures { IfOk result (λ text. length text ≤ SCRIPT_LIMIT) }
+{
+    let text = written_text(alloc, written)?;
+    if text.len() > SCRIPT_LIMIT {
+        return Err(NoMemory);
+    }
+    Ok(text)
+}
+
+fn answer(
+    alloc: Global,
+    read: Result<Script, SyntaxFault>,
     with_tree: bool,
 ) -> Result<String, NoMemory> {
-    let text = written_text(alloc, written)?;
-    match tokens(alloc, &text) {
-        Ok(tokens) => of_tokens(alloc, &tokens, names, start, with_tree),
-        Err(LexFault::NoToken { at }) => Ok(format!(in alloc; "unexpected {at}")?),
-        Err(LexFault::NoMemory) => Err(NoMemory),
+    match read {
+        Ok(script) => {
+            if with_tree {
+                shown(alloc, &script)
+            } else {
+                Ok(String::from_str(alloc, "accepted")?)
+            }
+        }
+        Err(SyntaxFault::Unexpected { at }) => Ok(format!(in alloc; "unexpected {at}")?),
+        Err(SyntaxFault::TooDeep { at }) => Ok(format!(in alloc; "too deep {at}")?),
+        Err(SyntaxFault::NoMemory) => Err(NoMemory),
     }
 }
 
@@ -56,41 +90,14 @@ fn tokens_of(alloc: Global, written: &str) -> Result<String, NoMemory> {
     }
 }
 
-fn of_tokens(
-    alloc: Global,
-    tokens: &Tokens,
-    names: Names,
-    start: Start,
-    with_tree: bool,
-) -> Result<String, NoMemory> {
-    match plain_answer(alloc, tokens, names, start)? {
-        PlainAnswer::Accepted { forest, root } if with_tree => shown(alloc, &forest, root),
-        PlainAnswer::Accepted { .. } => Ok(String::from_str(alloc, "accepted")?),
-        PlainAnswer::Unexpected(token) => Ok(format!(in alloc;
-            "unexpected {}",
-            unit_of(tokens, token)
-        )?),
-        PlainAnswer::TooDeep(token) => Ok(format!(in alloc;
-            "too deep {}",
-            unit_of(tokens, token)
-        )?),
-    }
-}
-
-fn shown(alloc: Global, forest: &Forest, root: usize) -> Result<String, NoMemory> {
+fn shown(alloc: Global, script: &Script) -> Result<String, NoMemory> {
     let mut out = Vec::new(alloc);
     out.extend_from_slice(b"accepted ")?;
-    forest.show(alloc, root, &mut out)?;
+    if script.count() > 0 {
+        show(alloc, script, script.root(), &mut out)?;
+    }
     match String::from_utf8(out) {
         Ok(text) => Ok(text),
         Err(_) => Ok(String::from_str(alloc, "no text")?),
-    }
-}
-
-// The first unit of the token of a number; the text's length at the end.
-fn unit_of(tokens: &Tokens, number: usize) -> usize {
-    match tokens.items.as_slice().get(number) {
-        Some(token) => token.from,
-        None => tokens.end,
     }
 }

@@ -3,6 +3,8 @@
 
 mod answer;
 mod listing;
+mod printing;
+mod productions;
 mod scopes;
 
 use std::io;

@@ -1,4 +1,0 @@
-pub mod Keeping
-pub mod Making
-pub mod Going
-pub mod Results
