@@ -1,0 +1,15 @@
+pub mod Arenas
+pub mod FreeRows
+pub mod Tops
+pub mod Steps
+pub mod NodeSyntax
+pub mod Labels
+pub mod Begun
+pub mod Sounds
+pub mod Leads
+pub mod FreeMoves
+pub mod Kept
+pub mod Theres
+pub mod Advancing
+pub mod DueSteps
+pub mod TopReadings
