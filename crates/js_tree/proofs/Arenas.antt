@@ -1,9 +1,11 @@
 -- Arenas that grow stay in order.
 use Rattle.std.proofs.Common.{◌≡◌, ℕ, suc, zero, ◌+◌, ◌<◌, ◌≤◌, ◌⊎◌, inl, inr, List, [], ◌∷◌, ◌++◌, length, Option, Some, None, sym, ap, refl, subst, ◌∙◌, arith}
 use Rattle.std.specs.List.{slice_get}
+use Rattle.std.specs.Option.{option_map}
 use Rattle.std.proofs.lemmas.List.{length_push}
 use Rattle.std.proofs.lemmas.Option.{same_Some, none-some}
 use Rattle.js_tree.specs.declared.node.NodeId.{NodeId}
+use Rattle.js_tree.specs.declared.node.Node.{Node}
 use Rattle.js_tree.specs.declared.script.TheConstants.{NODES_END}
 use Rattle.js_tree.specs.declared.script.Kept.{Kept}
 use Rattle.js_tree.specs.declared.script.Pending.{Pending}
@@ -11,7 +13,7 @@ use Rattle.js_tree.specs.declared.script.Braces.{Braces}
 use Rattle.js_tree.specs.declared.script.FunctionHead.{FunctionHead}
 use Rattle.js_tree.specs.declared.script.FunctionHead.TheVariants as head
 use Rattle.js_tree.specs.Trees.{Part, At, Body, Word, Missing, Nil, Cons, parts, named, words}
-use Rattle.js_tree.specs.Arena.{Arena, IsWithin, IsOrdered, function_of, pending_of, with_function, with_node}
+use Rattle.js_tree.specs.Arena.{Arena, IsFunctionOf, IsWithin, IsOrdered, function_of, node_at, pending_of, with_function, with_node}
 
 -- what is there stays there
 pub within_more : (n b m c : ℕ) → n ≤ m → b ≤ c → (p : Part) → IsWithin n b p → IsWithin m c p
@@ -41,6 +43,23 @@ function_within : (head : FunctionHead) (n b : ℕ) → IsWithin n (b + 1) (part
 function_within (head.Expression h) n b = (named_within n (b + 1) h.value.name, (words_within n (b + 1) h.value.parameters, (omega arith, tt)))
 function_within (head.Declaration h) n b = (tt, (words_within n (b + 1) h.value.parameters, (omega arith, tt)))
 
+-- a node that is there stays the one that it is
+kept_on : (xs : List Kept) (x : Kept) (i : ℕ) → i < length xs → slice_get (xs ++ x ∷ []) i ≡ slice_get xs i
+kept_on [] x i l = absurd (omega arith)
+kept_on (y ∷ xs) x zero l = refl
+kept_on (y ∷ xs) x (suc i) l = kept_on xs x i (omega arith)
+
+added_last : (xs : List Kept) (x : Kept) → slice_get (xs ++ x ∷ []) (length xs) ≡ Some x
+added_last [] x = refl
+added_last (y ∷ xs) x = added_last xs x
+
+abbrev node_in : Option Kept → Option Node
+node_in found = option_map (λ (k : Kept). k.node) found
+
+still_named : (arena : Arena) (x : Kept) (i : ℕ) (p : Pending) → p.node.number < length arena.kept → IsFunctionOf i (node_at arena p.node)
+    → IsFunctionOf i (node_in (slice_get (arena.kept ++ x ∷ []) p.node.number))
+still_named arena x i p l h = (h.0, ap node_in (kept_on arena.kept x p.node.number l) ∙ h.1)
+
 pub function_added : (arena : Arena) → IsOrdered arena → length arena.kept < NODES_END → length arena.pending < NODES_END
     → (head : FunctionHead) (from to : ℕ) (braces : Braces) → IsOrdered (with_function head from to braces arena)
 function_added arena is few few_bodies head from to braces =
@@ -66,6 +85,11 @@ function_added arena is few few_bodies head from to braces =
       bodies = λ i id h. elim (get_pushed arena.filled None i (Some id) h) [
         | inl e ↦ (let old : id.number < length arena.kept = is.bodies i id e in omega arith)
         | inr e ↦ absurd (none-some id e.1)
+      ];
+      named = λ i p h. elim (get_pushed arena.pending pend i p h) [
+        | inl e ↦ still_named arena new i p (is.functions i p e) (is.named i p e)
+        | inr e ↦ subst (λ (p : Pending). IsFunctionOf i (node_in (slice_get (arena.kept ++ new ∷ []) p.node.number))) e.1
+            (subst (λ n. IsFunctionOf n (node_in (slice_get (arena.kept ++ new ∷ []) (length arena.kept)))) (sym e.0) (head, ap node_in (added_last arena.kept new)))
       ];
     }
 
@@ -99,4 +123,5 @@ node_added arena is few new within =
       ];
       functions = λ i p h. (let old : p.node.number < length arena.kept = is.functions i p h in omega arith);
       bodies = λ i id h. (let old : id.number < length arena.kept = is.bodies i id h in omega arith);
+      named = λ i p h. still_named arena new i p (is.functions i p h) (is.named i p h);
     }

@@ -28,7 +28,19 @@ IsWithin count bodies (Body k) = k < bodies
 IsWithin count bodies (Cons p q) = IsWithin count bodies p × IsWithin count bodies q
 IsWithin count bodies _ = Unit {0}
 
--- a node names only nodes before it, and bodies that are there; what is named elsewhere is there
+abbrev pub node_at : Arena → NodeId → Option Node
+node_at arena id = option_map (λ (k : Kept). k.node) (slice_get arena.kept id.number)
+
+abbrev pub function_of : FunctionHead → BodyId → Node
+function_of (head.Expression h) body = node.Function h body
+function_of (head.Declaration h) body = node.Declaration h body
+
+-- a node is the function of this body
+abbrev pub IsFunctionOf : ℕ → Option Node → Type 0
+IsFunctionOf k found = (head : FunctionHead) × (found ≡ Some (function_of head (record { number = k })))
+
+-- a node names only nodes before it, and bodies that are there; what is named elsewhere is there, and each body's node is the function
+-- that names it
 pub record IsOrdered (arena : Arena) : Type 0 where
   pub few_nodes : length arena.kept ≤ NODES_END
   pub few_bodies : length arena.pending ≤ NODES_END
@@ -36,6 +48,7 @@ pub record IsOrdered (arena : Arena) : Type 0 where
   pub nodes : (i : ℕ) (k : Kept) → slice_get arena.kept i ≡ Some k → IsWithin i (length arena.pending) (parts k.node)
   pub functions : (i : ℕ) (p : Pending) → slice_get arena.pending i ≡ Some p → p.node.number < length arena.kept
   pub bodies : (i : ℕ) (id : NodeId) → slice_get arena.filled i ≡ Some (Some id) → id.number < length arena.kept
+  pub named : (i : ℕ) (p : Pending) → slice_get arena.pending i ≡ Some p → IsFunctionOf i (node_at arena p.node)
 
 abbrev pub empty : Arena
 empty = record { kept = []; pending = []; filled = [] }
@@ -43,10 +56,6 @@ empty = record { kept = []; pending = []; filled = [] }
 -- with one more node
 abbrev pub with_node : Kept → Arena → Arena
 with_node k arena = record arena { kept = arena.kept ++ k ∷ [] }
-
-abbrev pub function_of : FunctionHead → BodyId → Node
-function_of (head.Expression h) body = node.Function h body
-function_of (head.Declaration h) body = node.Declaration h body
 
 abbrev pub pending_of : ℕ → Braces → Pending
 pending_of number braces = record { node = record { number = number }; from = braces.from; to = braces.to; level = braces.level }
@@ -62,9 +71,6 @@ with_function head from to braces arena = record {
 -- with the node that a body was read as
 abbrev pub with_body : ℕ → NodeId → Arena → Arena
 with_body k body arena = record arena { filled = slice_set arena.filled k (Some body) }
-
-abbrev pub node_at : Arena → NodeId → Option Node
-node_at arena id = option_map (λ (k : Kept). k.node) (slice_get arena.kept id.number)
 
 abbrev pub span_at : Arena → NodeId → Option (ℕ × ℕ)
 span_at arena id = option_map (λ (k : Kept). (k.from, k.to)) (slice_get arena.kept id.number)
