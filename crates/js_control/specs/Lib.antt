@@ -7,4 +7,6 @@ pub mod Updates
 pub mod Stored
 pub mod Choices
 pub mod Make
+pub mod Targets
+pub mod Waits
 pub mod inner

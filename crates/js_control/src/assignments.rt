@@ -11,10 +11,10 @@ ghost use Rattle.js_tree.specs.Arena.{Arena};
 ghost use Rattle.js_tree.specs.TreeAt.{tree_at};
 ghost use Rattle.js_tree.specs.declared.production.BinaryOperator.{BinaryOperator as Operator};
 ghost use Rattle.js_control.specs.Assignments as rows;
-ghost use Rattle.js_operands.specs.ExprMoves.{later_row, made_of, move_names, operand_names};
-ghost use Rattle.js_operands.specs.ExprMoves.{values_coming};
+ghost use Rattle.js_operands.specs.ExprMoves.{early_made_of, later_row, made_of, move_names};
+ghost use Rattle.js_operands.specs.ExprMoves.{operand_names};
 ghost use Rattle.js_operands.specs.Rows.{ExprRow as Row};
-ghost use Rattle.js_operands.specs.Shapes.{IsShaped};
+ghost use Rattle.js_operands.specs.Shapes.{IsEarlySo, IsShaped};
 ghost use Rattle.js_operands.specs.declared.row.Phase.{Phase as PhaseKind};
 ghost use Rattle.js_term.specs.Evaluation.{Evaluation};
 
@@ -22,7 +22,7 @@ use crate::operated::operated;
 use js_heap::Heap;
 use js_host::Host;
 use js_operands::{
-    ExprMove, Phase, Reached, Wanted, assign_next, convert_operand, given, is_missing, key_of,
+    ExprMove, Phase, Reached, Wanted, assign_next, convert_again, given, is_missing, key_of,
     operand, read_base, read_before, read_keyed, read_variable, type_error, write_base,
     write_variable,
 };
@@ -234,15 +234,13 @@ pub(crate) fn early_index<H: Host>(
     host: &H,
 ) -> Result<ExprMove, NoMemory>
     requires there { AreThere heap.old (operand_names operands.old (H.names.host host.now)) }
-    requires coming { values_coming operands.old.todo ≡ [] }
     requires early { rows.index_is_early operands.old.done ≡ true }
-    ensures value { (a : Arena) → IfOk result (λ m. rows.early_index (hosted H.rows) heap.old
-        host.now operands.old.done ≡ made_of a Row.AssignIndex operands.new m heap.new host.now) }
+    ensures value { IfOk result (λ m. rows.early_index (hosted H.rows) heap.old host.now
+        operands.old.done ≡ early_made_of Row.AssignIndex operands.new m heap.new host.now) }
     ensures there { IfOk result (λ m.
         AreThere heap.new (move_names m (operand_names operands.new (H.names.host host.now)))) }
     ensures more { OnOk result (IsLater heap.old heap.new) }
-    ensures shape { (n : Option PhaseKind) → IfOk result (λ m.
-        IsShaped n operands.old operands.new m) }
+    ensures shape { IfOk result (λ m. IsEarlySo operands.old operands.new m) }
 {
     let undefined = Value::Undefined;
     if is_missing(operand(operands, 0, &undefined)) {
@@ -252,5 +250,6 @@ pub(crate) fn early_index<H: Host>(
         place: 1,
         by: Hint::Text,
     };
-    convert_operand(alloc, wanted, None, operands, heap, host)
+    let conversion = convert_again(alloc, wanted, operands, heap, host)?;
+    Ok(ExprMove::Converts(None, conversion))
 }

@@ -313,10 +313,11 @@ fn choose<H: Host>(row: ExprRow<'_>, operands: &Operands) -> Result<ExprMove, No
     }
 }
 
-// The step of `this`, of a literal, or of a function that begins at the unit.
+// The step of `this`, of a literal, or of a function that begins at the unit of the text.
 fn literal<H: Host>(
     alloc: Global,
     row: ExprRow<'_>,
+    text: u32,
     unit: u32,
     names: &FunctionNames,
     at: &Context,
@@ -329,7 +330,7 @@ fn literal<H: Host>(
         (at.now.this ∷ operand_names operands.now (H.names.host host.now)) }
     requires scope { IsBelow (length heap.old.scopes) (option_map scope_number at.now.scope) }
     ensures value { (a : Arena) → IfOk result (λ m. make.made_expr (facts H.rows)
-        (At at.now.text unit) at.now heap.old host.now (row_as a row.entry) operands.now.done
+        (At text unit) at.now heap.old host.now (row_as a row.entry) operands.now.done
         ≡ made_of a (row_as a row.entry) operands.now m heap.new host.now) }
     ensures there { IfOk result (λ m.
         AreThere heap.new (move_names m (operand_names operands.now (H.names.host host.now)))) }
@@ -341,16 +342,17 @@ fn literal<H: Host>(
         ExprRow::This => this(at),
         ExprRow::Array(elements) => array(alloc, elements, operands, heap, host),
         ExprRow::Object(entries) => object(alloc, entries, operands, heap, host),
-        ExprRow::Function => function(alloc, names, unit, at, heap, host),
+        ExprRow::Function => function(alloc, names, text, unit, at, heap, host),
         _ => unreachable!(),
     }
 }
 
 /// The step of a node whose operands are values, by its row (ECMA-262 edition 5.1, 11). It begins
-/// at a unit of the context's text, which is looked at where it is a function.
+/// at a unit of a text; both are looked at where it is a function.
 pub fn contract_expr<H: Host>(
     alloc: Global,
     row: ExprRow<'_>,
+    text: u32,
     unit: u32,
     names: &FunctionNames,
     at: &Context,
@@ -363,7 +365,7 @@ pub fn contract_expr<H: Host>(
     requires coming { operands.old.todo ≡ [] }
     requires scope { IsBelow (length heap.old.scopes) (option_map scope_number at.now.scope) }
     ensures value { (a : Arena) → IfOk result (λ m. make.made_expr (facts H.rows)
-        (At at.now.text unit) at.now heap.old host.old (row_as a row.entry) operands.old.done
+        (At text unit) at.now heap.old host.old (row_as a row.entry) operands.old.done
         ≡ made_of a (row_as a row.entry) operands.new m heap.new host.new) }
     ensures there { IfOk result (λ m.
         AreThere heap.new (move_names m (operand_names operands.new (H.names.host host.new)))) }
@@ -372,7 +374,7 @@ pub fn contract_expr<H: Host>(
         IsShaped (next_phase (row_as a row.entry)) operands.old operands.new m) }
 {
     match kind_of(row) {
-        Kind::Literal => literal(alloc, row, unit, names, at, operands, heap, host),
+        Kind::Literal => literal(alloc, row, text, unit, names, at, operands, heap, host),
         Kind::Access => access(alloc, row, at, operands, heap, host),
         Kind::Call => request(alloc, row, operands, heap, host),
         Kind::Operator => operate_on(alloc, row, operands, heap, host),

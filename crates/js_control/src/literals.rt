@@ -36,11 +36,11 @@ pub(crate) fn this(at: &Context) -> Result<ExprMove, NoMemory>
     Ok(ExprMove::Value(at.this.copy()?))
 }
 
-/// A function expression, which begins at a unit of the context's text, in the scope where it
-/// stands (13).
+/// A function expression, which begins at a unit of the text, in the scope where it stands (13).
 pub(crate) fn function<H: Host>(
     alloc: Global,
     names: &FunctionNames,
+    text: u32,
     unit: u32,
     at: &Context,
     heap: &mut Heap,
@@ -48,7 +48,7 @@ pub(crate) fn function<H: Host>(
 ) -> Result<ExprMove, NoMemory>
     requires { IsBelow (length heap.old.scopes) (option_map scope_number at.now.scope) }
     ensures value { (a : Arena) (r : Row) (e : Evaluation) → IfOk result (λ m.
-        rows.function_row (At at.now.text unit) at.now heap.old host.now
+        rows.function_row (At text unit) at.now heap.old host.now
         ≡ made_of a r e m heap.new host.now) }
     ensures there { (vs : List Held) → AreThere heap.old vs
         → IfOk result (λ m. AreThere heap.new (move_names m vs)) }
@@ -61,7 +61,7 @@ pub(crate) fn function<H: Host>(
         return Ok(given::<H>(answered));
     }
     let code = Code {
-        text: at.text,
+        text,
         node: unit,
         scope: at.scope,
     };

@@ -114,12 +114,12 @@ waits_again n e e' d l is same = record {
 }
 
 -- a frame that waits for one of its operands names what it named
-pub names_again : (n : ℕ) (e : Evaluation) (hs : List Value) → values_coming e.todo ≡ [] → operand_names (again n e) hs ≡ operand_names e hs
-names_again n e hs c =
-    let back : values_coming (map operand.Value (drop n e.done) ++ e.todo) ≡ drop n e.done = values_before (drop n e.done) e.todo ∙ ap (λ us. drop n e.done ++ us) c ∙ no_more (drop n e.done) in
-    let same : take n e.done ++ values_coming (map operand.Value (drop n e.done) ++ e.todo) ≡ e.done = ap (λ us. take n e.done ++ us) back ∙ take_drop n e.done in
-    let was : e.done ++ values_coming e.todo ≡ e.done = ap (λ us. e.done ++ us) c ∙ no_more e.done in
-    ap (λ us. us ++ hs) (same ∙ sym was)
+pub names_again : (n : ℕ) (e : Evaluation) (hs : List Value) → operand_names (again n e) hs ≡ operand_names e hs
+names_again n e hs =
+    let coming : List Value = values_coming e.todo in
+    let back : values_coming (map operand.Value (drop n e.done) ++ e.todo) ≡ drop n e.done ++ coming = values_before (drop n e.done) e.todo in
+    let all : take n e.done ++ (drop n e.done ++ coming) ≡ e.done ++ coming = sym (append_assoc (take n e.done) (drop n e.done) coming) ∙ ap (λ us. us ++ coming) (take_drop n e.done) in
+    ap (λ us. us ++ hs) (ap (λ us. take n e.done ++ us) back ∙ all)
 
 -- a conversion behind its first step, with what the frame names
 pub conversion_there : {E : Type 0} (r : Result Conversion E) (w w' : World) (vs hs : List Value) → AreThere w (vs ++ hs) → OnOk r (IsLater w w') → IfOk r (λ k. AreThere w' (conversion_names k hs)) → IfOk r (λ k. AreThere w' (conversion_names k (vs ++ hs)))
@@ -141,9 +141,9 @@ waits w w' h r n e e' k j l c f g a =
     cc
 
 -- and what it names
-pub waits_there : (k : Conversion) (w w' : World) (n : ℕ) (e e' : Evaluation) (hs : List Value) → values_coming e.todo ≡ [] → e' ≡ again n e → AreThere w (operand_names e hs) → IsLater w w' → AreThere w' (conversion_names k hs) → AreThere w' (conversion_names k (operand_names e' hs))
-waits_there k w w' n e e' hs c f a l b =
-    let same : operand_names e' hs ≡ operand_names e hs = ap (λ x. operand_names x hs) f ∙ names_again n e hs c in
+pub waits_there : (k : Conversion) (w w' : World) (n : ℕ) (e e' : Evaluation) (hs : List Value) → e' ≡ again n e → AreThere w (operand_names e hs) → IsLater w w' → AreThere w' (conversion_names k hs) → AreThere w' (conversion_names k (operand_names e' hs))
+waits_there k w w' n e e' hs f a l b =
+    let same : operand_names e' hs ≡ operand_names e hs = ap (λ x. operand_names x hs) f ∙ names_again n e hs in
     let named = conversion_named k w w' (e.done ++ values_coming e.todo) hs a l b in
     let P : List Value → Type 0 = λ us. AreThere w' (conversion_names k us) in
     subst P (sym same) named

@@ -1,6 +1,7 @@
 -- What code has of rows and moves, and what it stands for.
 use Rattle.std.specs.Prelude.{List, [], ◌∷◌, ◌++◌, Option, Some, None, drop, is_some, map}
 use Rattle.js_value.specs.declared.value.Value.{Value}
+use Rattle.js_value.specs.declared.value.Value.TheVariants as value
 use Rattle.js_heap.specs.World.{World}
 use Rattle.js_host.specs.Names.{call_names}
 use Rattle.js_term.specs.Evaluation.{Evaluation}
@@ -76,6 +77,13 @@ made_of a r e (move.GoesOn f) w h =
 made_of a r e (move.Converts f k) w h =
     Made.Converts (row_behind r f) e.done (conversion_as k) (values_coming (drop 1 e.todo)) w h
 made_of a r e (move.Calls f c) w h = Made.Calls f c w h
+
+-- of an early step, which throws, or converts the last of the values: what the move makes, with the
+-- operands that it leaves; whatever is to come behind them is no part of it
+abbrev pub early_made_of : ExprRow → Evaluation → ExprMove → World → {H : Type 0} → H → Made H
+early_made_of r e (move.Throws v) w h = Made.Throws v w h
+early_made_of r e (move.Converts f k) w h = Made.Converts r e.done (conversion_as k) [] w h
+early_made_of r e m w h = Made.Gives value.Undefined w h
 
 -- what a move names, in front of others
 abbrev pub conversion_names : code_conversion.Conversion → List Value → List Value

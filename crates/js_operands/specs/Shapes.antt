@@ -39,6 +39,11 @@ pub record IsWaiting (e e' : Evaluation) : Type 0 where
   pub others : List Value
   pub coming : e'.todo ≡ map operand.Value (first ∷ others) ++ e.todo
 
+-- a value that is in conversion is the next to come, and nothing else is put before what was to come
+pub record IsNextAlone (e e' : Evaluation) : Type 0 where
+  pub first : Value
+  pub coming : e'.todo ≡ operand.Value first ∷ e.todo
+
 -- next: the phase in which the node goes on. e, e': its operands before and after. Where it goes on
 -- only parts of the text are to come, and behind a call the operands are as they were.
 module _ (next : Option Phase) (e e' : Evaluation) where
@@ -51,3 +56,9 @@ module _ (next : Option Phase) (e e' : Evaluation) where
   abbrev pub IsReachedSo : Reached → Type 0
   IsReachedSo (reached.Moves m) = IsShaped m
   IsReachedSo (reached.Gives v) = Unit {0}
+
+-- how an early step leaves its node: it is thrown away, or waits for its last value in its own phase
+abbrev pub IsEarlySo : (e e' : Evaluation) → ExprMove → Type 0
+IsEarlySo e e' (move.Throws v) = Unit {0}
+IsEarlySo e e' (move.Converts f k) = (f ≡ None) × IsNextAlone e e'
+IsEarlySo e e' m = ⊥

@@ -17,7 +17,7 @@ ghost use Rattle.js_operands.specs.Rows.{ExprRow as Row};
 ghost use Rattle.js_operands.specs.Steps.{operand_at};
 ghost use Rattle.js_operands.specs.Shapes.{IsNext, IsShaped};
 ghost use Rattle.js_operands.specs.declared.row.Phase.{Phase as PhaseKind};
-ghost use Rattle.js_term.specs.Evaluation.{Evaluation};
+ghost use Rattle.js_term.specs.Evaluation.{Evaluation, again};
 
 use crate::values::operand;
 use crate::wants::{Wanted, Wants, first_wanted};
@@ -148,8 +148,35 @@ fn convert<H: Host>(
     })
 }
 
-/// The first step of the conversion of an operand, for which the frame waits then.
-pub fn convert_operand<H: Host>(
+/// The first step of the conversion of an operand, which is to come again then, with those behind
+/// it, before whatever was to come.
+pub fn convert_again<H: Host>(
+    alloc: Global,
+    wanted: Wanted,
+    operands: &mut Operands,
+    heap: &mut Heap,
+    host: &H,
+) -> Result<Conversion, NoMemory>
+    requires there { AreThere heap.old (operand_names operands.old (H.names.host host.now)) }
+    requires place { wanted.place < length operands.old.done }
+    ensures value { IfOk result (λ k. conversion_as k ≡ spec.convert (hosted H.rows) heap.old
+        host.now wanted.by (operand_at operands.old.done wanted.place)) }
+    ensures after { IfOk result (λ k. heap.new
+        ≡ spec.after_conversion heap.old (conversion_as k)) }
+    ensures waits { OnOk result (operands.new ≡ again wanted.place operands.old) }
+    ensures there { IfOk result (λ k. AreThere heap.new
+        (conversion_names k (operand_names operands.new (H.names.host host.now)))) }
+    ensures more { OnOk result (IsLater heap.old heap.new) }
+{
+    let undefined = Value::Undefined;
+    let object = operand(operands, wanted.place, &undefined);
+    let conversion = convert(alloc, object, wanted.by, heap, host)?;
+    operands.turn_back(wanted.place);
+    Ok(conversion)
+}
+
+// The first step of the conversion of an operand, for which the frame waits then.
+fn convert_operand<H: Host>(
     alloc: Global,
     wanted: Wanted,
     phase: Option<Phase>,
@@ -170,10 +197,7 @@ pub fn convert_operand<H: Host>(
     ensures shape { (n : Option PhaseKind) (e : Evaluation) → IsNext n phase
         → e.todo ≡ operands.old.todo → IfOk result (λ m. IsShaped n e operands.new m) }
 {
-    let undefined = Value::Undefined;
-    let object = operand(operands, wanted.place, &undefined);
-    let conversion = convert(alloc, object, wanted.by, heap, host)?;
-    operands.turn_back(wanted.place);
+    let conversion = convert_again(alloc, wanted, operands, heap, host)?;
     Ok(ExprMove::Converts(phase, conversion))
 }
 

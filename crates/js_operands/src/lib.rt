@@ -15,7 +15,7 @@ mod syntax;
 mod values;
 mod wants;
 
-pub use conversions::{convert_operand, convert_row, converting_row, prepared};
+pub use conversions::{convert_again, convert_row, converting_row, prepared};
 pub use expr_move::{Conversion, ExprMove};
 pub use handlers::sets_handler;
 pub use keys::{delete_keyed, key_of, read_keyed};

@@ -13,7 +13,7 @@ returns-in-Literal-clause-shape g c = λ a.
 
 pub returns-in-Access-clause-value : goal.returns-in-Access-clause-value
 returns-in-Access-clause-value g c = λ a.
-    let at = At c.args.at.now.text c.args.unit in
+    let at = At c.args.text c.args.unit in
     c.access.ensures.value a at
 
 pub returns-in-Access-clause-shape : goal.returns-in-Access-clause-shape
@@ -21,7 +21,7 @@ returns-in-Access-clause-shape g c = λ a. c.access.ensures.shape a
 
 pub returns-in-Call-clause-value : goal.returns-in-Call-clause-value
 returns-in-Call-clause-value g c = λ a.
-    let at = At c.args.at.now.text c.args.unit in
+    let at = At c.args.text c.args.unit in
     c.request.ensures.value a at c.args.at.now
 
 pub returns-in-Call-clause-shape : goal.returns-in-Call-clause-shape
@@ -29,7 +29,7 @@ returns-in-Call-clause-shape g c = λ a. c.request.ensures.shape a
 
 pub returns-in-Operator-clause-value : goal.returns-in-Operator-clause-value
 returns-in-Operator-clause-value g c = λ a.
-    let at = At c.args.at.now.text c.args.unit in
+    let at = At c.args.text c.args.unit in
     c.operate_on.ensures.value a at c.args.at.now
 
 pub returns-in-Operator-clause-shape : goal.returns-in-Operator-clause-shape
@@ -37,7 +37,7 @@ returns-in-Operator-clause-shape g c = λ a. c.operate_on.ensures.shape a
 
 pub returns-in-Choice-clause-value : goal.returns-in-Choice-clause-value
 returns-in-Choice-clause-value g c = λ a.
-    let at = At c.args.at.now.text c.args.unit in
+    let at = At c.args.text c.args.unit in
     c.choose.ensures.value a at c.args.at.now c.args.heap.now c.args.host.now
 
 pub returns-in-Choice-clause-shape : goal.returns-in-Choice-clause-shape
@@ -47,7 +47,7 @@ returns-in-Choice-clause-shape g c = λ a.
 
 pub returns-in-Revision-clause-value : goal.returns-in-Revision-clause-value
 returns-in-Revision-clause-value g c = λ a.
-    let at = At c.args.at.now.text c.args.unit in
+    let at = At c.args.text c.args.unit in
     c.revise.ensures.value a at
 
 pub returns-in-Revision-clause-shape : goal.returns-in-Revision-clause-shape
@@ -55,7 +55,7 @@ returns-in-Revision-clause-shape g c = λ a. c.revise.ensures.shape a
 
 pub returns-in-Update-clause-value : goal.returns-in-Update-clause-value
 returns-in-Update-clause-value g c = λ a.
-    let at = At c.args.at.now.text c.args.unit in
+    let at = At c.args.text c.args.unit in
     c.update.ensures.value a at
 
 pub returns-in-Update-clause-shape : goal.returns-in-Update-clause-shape
@@ -63,7 +63,7 @@ returns-in-Update-clause-shape g c = λ a. c.update.ensures.shape a
 
 pub returns-in-Write-clause-value : goal.returns-in-Write-clause-value
 returns-in-Write-clause-value g c = λ a.
-    let at = At c.args.at.now.text c.args.unit in
+    let at = At c.args.text c.args.unit in
     c.write_target.ensures.value a at
 
 pub returns-in-Write-clause-shape : goal.returns-in-Write-clause-shape

@@ -15,7 +15,7 @@ returns-in-This-clause-value g c = λ a.
     let w = c.args.heap.now in
     let h = c.args.host.now in
     let P : code_row.ExprRow → Type 0 = λ r. IfOk c.this.result (λ m.
-    made_expr F (At c.args.at.now.text c.args.unit) c.args.at.now w h (row_as a r) e.done
+    made_expr F (At c.args.text c.args.unit) c.args.at.now w h (row_as a r) e.done
     ≡ made_of a (row_as a r) e m w h) in
     subst P (sym c.in-This.is) (IfOk-weaker c.this.result _ _
     (λ m is. ap (λ x. made_of a (row_as a code.This) e x w h) (sym is)) c.this.ensures.value)
@@ -27,7 +27,7 @@ returns-in-Array-clause-value g c = λ a.
     let w = c.args.heap.now in
     let h = c.args.host.now in
     let P : code_row.ExprRow → Type 0 = λ r. IfOk c.array.result (λ m.
-    made_expr F (At c.args.at.now.text c.args.unit) c.args.at.now w h (row_as a r) e.done
+    made_expr F (At c.args.text c.args.unit) c.args.at.now w h (row_as a r) e.done
     ≡ made_of a (row_as a c.args.row) e m c.array.new.heap h) in
     subst P (sym c.in-Array.is) (c.array.ensures.value a (row_as a c.args.row))
 
@@ -38,7 +38,7 @@ returns-in-Object-clause-value g c = λ a.
     let w = c.args.heap.now in
     let h = c.args.host.now in
     let P : code_row.ExprRow → Type 0 = λ r. IfOk c.object.result (λ m.
-    made_expr F (At c.args.at.now.text c.args.unit) c.args.at.now w h (row_as a r) e.done
+    made_expr F (At c.args.text c.args.unit) c.args.at.now w h (row_as a r) e.done
     ≡ made_of a (row_as a c.args.row) e m c.object.new.heap h) in
     subst P (sym c.in-Object.is) (c.object.ensures.value a (row_as a c.args.row))
 
@@ -49,6 +49,6 @@ returns-in-Function-clause-value g c = λ a.
     let w = c.args.heap.now in
     let h = c.args.host.now in
     let P : code_row.ExprRow → Type 0 = λ r. IfOk c.function.result (λ m.
-    made_expr F (At c.args.at.now.text c.args.unit) c.args.at.now w h (row_as a r) e.done
+    made_expr F (At c.args.text c.args.unit) c.args.at.now w h (row_as a r) e.done
     ≡ made_of a (row_as a c.args.row) e m c.function.new.heap h) in
     subst P (sym c.in-Function.is) (c.function.ensures.value a (row_as a c.args.row) e)
