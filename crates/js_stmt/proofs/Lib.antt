@@ -6,6 +6,7 @@ pub mod Operated
 pub mod CatchSteps
 pub mod MoveRows
 pub mod NodeParts
+pub mod Later
 pub mod HeldParts
 pub mod Brought
 pub mod CaughtThere

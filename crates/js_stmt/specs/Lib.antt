@@ -16,3 +16,4 @@ pub mod Parts
 pub mod Wider
 pub mod Shapes
 pub mod NodeRows
+pub mod Lent

@@ -8,6 +8,7 @@ mod found;
 mod jumps;
 mod kept;
 mod labelling;
+mod laws;
 mod loops;
 mod node_rows;
 mod operand_lists;
@@ -21,6 +22,7 @@ mod variables;
 
 pub use contract::{contract_stmt, meet_stmt};
 pub use kept::StmtKept;
+pub use laws::{a_statement_goes_on_as_its_node, statements_run_where_they_stand};
 pub use node_rows::stmt_row_of;
 pub use operand_lists::restart;
 pub use phase::StmtPhase;

@@ -1,11 +1,12 @@
 // The row of a node in a phase.
-ghost use Rattle.std.specs.Prelude.{◌≡◌, ◌<◌, IfSome, length, unwrap_or};
+ghost use Rattle.std.specs.Prelude.{◌≡◌, ◌<◌, IfSome, Option, Some, length, unwrap_or};
 ghost use Rattle.std.specs.Option.{option_copied, option_map};
 ghost use Rattle.js_term.specs.declared.context.Context.{Context};
 ghost use Rattle.js_tree.specs.Arena.{Arena, IsWithin};
 ghost use Rattle.js_tree.specs.TreeAt.{tree_at};
 ghost use Rattle.js_tree.specs.Trees.{at as part_at, declarators as part_of_list, parts as parts_of};
 ghost use Rattle.js_stmt.specs.CodeRows.{declarators_as, labels_around, loop_as, row_as};
+ghost use Rattle.js_stmt.specs.Lent.{IsLent, IsLentOf, node_loop};
 ghost use Rattle.js_stmt.specs.NodeRows as rows;
 ghost use Rattle.js_stmt.specs.Parts.{IsHeld, loop_parts as parts_of_loop, row_parts};
 ghost use Rattle.js_stmt.specs.Rows.{StmtRow as Row};
@@ -26,6 +27,7 @@ fn loop_parts(node: &Node, labelling: Labelling) -> Option<LoopParts>
         ≡ rows.loop_at a (labels_around a labelling) node.now }
     ensures held { (a : Arena) → IsHeld a (parts_of node.now)
         → IfSome result (λ l. IsHeld a (parts_of_loop l)) }
+    ensures lent { result ≡ node_loop labelling (Some node.now) }
 {
     match node {
         Node::DoWhile { body, test } => Some(LoopParts {
@@ -93,6 +95,8 @@ fn var_row(list: &[Declarator]) -> StmtRow<'_>
     ensures row { (a : Arena) (c : Context) → IsHeld a (part_of_list list.now)
         → row_as a c result ≡ row_of_var (declarators_as a list.now) }
     ensures held { (a : Arena) → IsHeld a (part_of_list list.now) → IsHeld a (row_parts result) }
+    ensures lent { (a : Arena) (ls : Labelling) (k : StmtKept)
+        → IsLentOf a ls (Some (Node.Var list.now)) k result }
 {
     match first_initialised(list, 0) {
         Some(found) => StmtRow::Var {
@@ -110,6 +114,8 @@ fn for_in_row(script: &Script, target: NodeId, body: NodeId, labelling: Labellin
         (λ k. Row.ForIn k (tree_at script.now body) (labels_around script.now labelling))
         (syntax.name_of_target (tree_at script.now target))) Row.Free }
     ensures held { (a : Arena) → IsHeld a (part_at body) → IsHeld a (row_parts result) }
+    ensures lent { (value : NodeId) (k : StmtKept)
+        → IsLentOf script.now labelling (Some (Node.ForIn target value body)) k result }
 {
     match named_target(script, target) {
         Some(name) => StmtRow::ForIn(ForInParts {
@@ -129,6 +135,7 @@ fn begun_row<'a>(script: &'a Script, node: &'a Node, labelling: Labelling) -> St
     ensures row { (c : Context) → row_as script.now c result
         ≡ rows.begun_row script.now (labels_around script.now labelling) node.now }
     ensures held { IsHeld script.now (row_parts result) }
+    ensures lent { (k : StmtKept) → IsLentOf script.now labelling (Some node.now) k result }
 {
     match node {
         Node::Var(list) => var_row(list.as_slice()),
@@ -187,6 +194,8 @@ fn loop_in_phase<'a>(parts: Option<LoopParts>, phase: StmtPhase) -> StmtRow<'a>
         ≡ rows.loop_row phase (option_map (loop_as a) parts) }
     ensures held { (a : Arena) → IfSome parts (λ l. IsHeld a (parts_of_loop l))
         → IsHeld a (row_parts result) }
+    ensures lent { (a : Arena) (ls : Labelling) (n : Option Node) (k : StmtKept)
+        → parts ≡ node_loop ls n → IsLentOf a ls n k result }
 {
     let Some(parts) = parts else {
         return StmtRow::Free;
@@ -204,6 +213,8 @@ fn loop_in_phase<'a>(parts: Option<LoopParts>, phase: StmtPhase) -> StmtRow<'a>
 fn declared_row(node: &Node, at: usize) -> StmtRow<'_>
     ensures row { (a : Arena) (c : Context) → row_as a c result ≡ rows.declared_row a at node.now }
     ensures held { (a : Arena) → IsHeld a (parts_of node.now) → IsHeld a (row_parts result) }
+    ensures lent { (a : Arena) (ls : Labelling) (k : StmtKept)
+        → IsLentOf a ls (Some node.now) k result }
 {
     match node {
         Node::Var(list) => StmtRow::Var {
@@ -219,6 +230,7 @@ fn case_row(node: &Node, labelling: Labelling, at: usize) -> StmtRow<'_>
     ensures row { (a : Arena) (c : Context) → row_as a c result
         ≡ rows.case_row a (labels_around a labelling) at node.now }
     ensures held { (a : Arena) → IsHeld a (parts_of node.now) → IsHeld a (row_parts result) }
+    ensures lent { (a : Arena) (k : StmtKept) → IsLentOf a labelling (Some node.now) k result }
 {
     match node {
         Node::Switch { cases, .. } => {
@@ -234,6 +246,7 @@ fn clauses_row(node: &Node, labelling: Labelling) -> StmtRow<'_>
     ensures row { (a : Arena) (c : Context) → row_as a c result
         ≡ rows.clauses_row (labels_around a labelling) node.now }
     ensures held { (a : Arena) → IsHeld a (row_parts result) }
+    ensures lent { (a : Arena) (k : StmtKept) → IsLentOf a labelling (Some node.now) k result }
 {
     match node {
         Node::Switch { .. } => StmtRow::SwitchBody(labelling),
@@ -245,6 +258,8 @@ fn clauses_row(node: &Node, labelling: Labelling) -> StmtRow<'_>
 fn catch_row(node: &Node, scope: ScopeId) -> StmtRow<'_>
     ensures row { (a : Arena) (c : Context) → row_as a c result ≡ rows.catch_row a scope node.now }
     ensures held { (a : Arena) → IsHeld a (parts_of node.now) → IsHeld a (row_parts result) }
+    ensures lent { (a : Arena) (ls : Labelling) (k : StmtKept)
+        → IsLentOf a ls (Some node.now) k result }
 {
     match node {
         Node::Try(guarded) => StmtRow::Catch(scope, guarded),
@@ -263,6 +278,9 @@ fn kept_names_row<'a>(
     ensures row { (a : Arena) (c : Context) → row_as a c result ≡ rows.kept_names_row a
         (labels_around a labelling) passed (option_copied name.entry) body kept.now }
     ensures held { (a : Arena) → IsHeld a (part_at body) → IsHeld a (row_parts result) }
+    ensures lent { (a : Arena) (target value : NodeId)
+        → option_copied name.entry ≡ syntax.name_of_target (tree_at a target)
+        → IsLentOf a labelling (Some (Node.ForIn target value body)) kept.now result }
 {
     let Some(name) = name else {
         return StmtRow::Free;
@@ -294,6 +312,7 @@ fn names_row<'a>(
     ensures row { (c : Context) → row_as script.now c result ≡ rows.names_row script.now
         (labels_around script.now labelling) passed node.now kept.now }
     ensures held { IsHeld script.now (parts_of node.now) → IsHeld script.now (row_parts result) }
+    ensures lent { IsLentOf script.now labelling (Some node.now) kept.now result }
 {
     match node {
         Node::ForIn { target, body, .. } => kept_names_row(
@@ -340,6 +359,7 @@ fn phase_row<'a>(
     ensures row { (c : Context) → row_as script.now c result ≡ rows.node_row script.now c
         (labels_around script.now labelling) node.now phase kept.now }
     ensures held { IsHeld script.now (row_parts result) }
+    ensures lent { IsLentOf script.now labelling (Some node.now) kept.now result }
 {
     match phase {
         StmtPhase::Begun => begun_row(script, node, labelling),
@@ -371,6 +391,7 @@ pub fn stmt_row_of<'a>(
     ensures row { (c : Context) → row_as script.now c result
         ≡ rows.row_in script.now c id outermost phase kept.now }
     ensures held { IsHeld script.now (row_parts result) }
+    ensures lent { IsLent script.now id outermost kept.now result }
 {
     let _nodes = script.count();
     let labelling = Labelling {

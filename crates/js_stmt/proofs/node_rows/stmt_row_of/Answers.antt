@@ -1,5 +1,7 @@
-use Rattle.std.proofs.Common.{◌≤◌, ◌∙◌, arith, length}
+use Rattle.std.proofs.Common.{◌≤◌, ◌∙◌, arith, length, subst, sym}
 use Rattle.js_tree.specs.Trees.{parts}
+use Rattle.js_stmt.specs.Lent.{IsLentOf}
+use Rattle.js_stmt.specs.declared.row.Labelling.{Labelling}
 use Rattle.js_stmt.proofs.NodeParts.{held_within, row_found, within_all}
 use Rattle.js_stmt.proofs.node_rows.stmt_row_of.Goals as goal
 
@@ -24,3 +26,10 @@ returns-clause-row c = λ k.
     c.phase_row.ensures.row k
     ∙ row_found c.args.script.now k c.args.id c.args.outermost c.node.result.now c.args.phase
     c.args.kept.now c.node.ensures.is
+
+pub returns-clause-lent : goal.returns-clause-lent
+returns-clause-lent c =
+    let labelling : Labelling =
+    record { outermost = c.args.outermost; statement = c.args.id } in
+    subst (λ n. IsLentOf c.args.script.now labelling n c.args.kept.now c.phase_row.result)
+    (sym c.node.ensures.is) c.phase_row.ensures.lent
