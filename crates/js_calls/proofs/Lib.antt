@@ -5,3 +5,4 @@ pub mod Joined
 pub mod NodeTrees
 pub mod Programmed
 pub mod FilledBodies
+pub mod Runnable

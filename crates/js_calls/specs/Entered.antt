@@ -9,7 +9,7 @@ use Rattle.js_tree.specs.Arena.{Arena}
 use Rattle.js_tree.specs.TreeAt.{tree_of}
 use Rattle.js_tree.specs.Trees.{nodes}
 use Rattle.js_tree.specs.declared.node.NodeId.{NodeId}
-use Rattle.js_stmt.specs.CodeRows.{operand_trees}
+use Rattle.js_stmt.specs.CodeRows.{fresh, operand_trees}
 use Rattle.js_stmt.specs.Made.{Progress}
 use Rattle.js_stmt.specs.Made.Progress.{Completes, GoesOn}
 use Rattle.js_stmt.specs.Rows.StmtRow.{Body}
@@ -41,6 +41,11 @@ entered_as a (entered.Throws v) = Completes (Throw v)
 abbrev pub Enters : Entered → Option NodeId → Type 0
 Enters (entered.Body n c made e) o = o ≡ Some n
 Enters (entered.Throws v) o = Unit {0}
+
+-- of an entered body only the statements of its text are to come
+abbrev pub EntersParts : Entered → Type 0
+EntersParts (entered.Body n c made e) = (ids : List NodeId) × (e ≡ fresh ids)
+EntersParts (entered.Throws v) = Unit {0}
 
 -- the values that a call leaves, in front of others
 abbrev pub entered_names : Entered → List Value → List Value

@@ -1,6 +1,7 @@
 -- What a text carries beside its tree, and what is asked of one that was read.
-use Rattle.std.specs.Prelude.{◌≡◌, ℕ, ◌-◌, Option, Some, None, IfSome, length, slice_get}
-use Rattle.js_tree.specs.Arena.{Arena, function_at, scope}
+use Rattle.std.specs.Prelude.{◌≡◌, ℕ, ◌-◌, Bool, true, false, Option, Some, None, IfSome, length}
+use Rattle.std.specs.Prelude.{slice_get, if◌then◌else◌}
+use Rattle.js_tree.specs.Arena.{Arena, function_at, is_handler, node_at, scope}
 use Rattle.js_tree.specs.Names.{program_scope}
 use Rattle.js_tree.specs.TreeAt.{body_at, tree_at, tree_of}
 use Rattle.js_tree.specs.Trees.{Tree, nodes}
@@ -38,3 +39,19 @@ IsProgramKept a None = ⊥
 -- the node that was added last is a program, which carries the scope of its statements
 abbrev pub IsProgram : Arena → Type 0
 IsProgram a = IsProgramKept a (slice_get a.kept (length a.kept - 1))
+
+abbrev pub last_node : Arena → Option Node
+last_node a = node_at a (record { number = length a.kept - 1 })
+
+abbrev pub is_program : Option Node → Bool
+is_program (Some (node.Program _ _)) = true
+is_program _ = false
+
+-- of a handler the unit behind it, and of any other node its first unit
+abbrev pub unit_of_kept : Option Kept → ℕ
+unit_of_kept None = 0
+unit_of_kept (Some k) = if is_handler k.node then k.to else k.from
+
+-- the unit that names a function
+abbrev pub body_unit : Arena → NodeId → ℕ
+body_unit a id = unit_of_kept (slice_get a.kept id.number)

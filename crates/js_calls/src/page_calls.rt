@@ -30,7 +30,8 @@ ghost use Rattle.js_stmt.specs.Tries.{next_scope};
 ghost use Rattle.js_stmt.specs.Wider.{IsWider};
 ghost use Rattle.js_calls.specs.Calls as calls;
 ghost use Rattle.js_calls.specs.Asks.{asks as asks_of};
-ghost use Rattle.js_calls.specs.Entered.{Enters, entered_as, entered_names, entered_scope};
+ghost use Rattle.js_calls.specs.Entered.{Enters, EntersParts, entered_as, entered_names};
+ghost use Rattle.js_calls.specs.Entered.{entered_scope};
 ghost use Rattle.js_calls.specs.Entered.{function_as, parameter_names};
 ghost use Rattle.js_calls.specs.Texts.{IsRead};
 
@@ -206,6 +207,7 @@ fn into_body(
     ensures node { IfOk result (λ r. Enters r (Some node)) }
     ensures there { (w : World) (vs : List Held) → AreThere w (this ∷ option_names made vs)
         → IfOk result (λ r. AreThere w (entered_names r vs)) }
+    ensures parts { IfOk result (λ r. EntersParts r) }
     ensures inner { IfOk result (λ r. IsBelow (length heap.new.scopes) (entered_scope r)) }
     ensures more { OnOk result (IsWider heap.old heap.new) }
 {
@@ -251,6 +253,7 @@ fn into_new<H: Host>(
     ensures node { IfOk result (λ r. Enters r (Some node)) }
     ensures there { IfOk result (λ r.
         AreThere heap.new (entered_names r (H.names.host host.now))) }
+    ensures parts { IfOk result (λ r. EntersParts r) }
     ensures inner { IfOk result (λ r. IsBelow (length heap.new.scopes) (entered_scope r)) }
     ensures more { OnOk result (IsWider heap.old heap.new) }
 {
@@ -296,6 +299,7 @@ fn into_call<H: Host>(
     ensures node { IfOk result (λ r. Enters r (Some node)) }
     ensures there { IfOk result (λ r.
         AreThere heap.new (entered_names r (H.names.host host.now))) }
+    ensures parts { IfOk result (λ r. EntersParts r) }
     ensures inner { IfOk result (λ r. IsBelow (length heap.new.scopes) (entered_scope r)) }
     ensures more { OnOk result (IsWider heap.old heap.new) }
 {
@@ -347,6 +351,7 @@ fn call_parts<H: Host>(
     ensures node { IfOk result (λ r. Enters r (Some node)) }
     ensures there { IfOk result (λ r.
         AreThere heap.new (entered_names r (H.names.host host.now))) }
+    ensures parts { IfOk result (λ r. EntersParts r) }
     ensures inner { IfOk result (λ r. IsBelow (length heap.new.scopes) (entered_scope r)) }
     ensures more { OnOk result (IsWider heap.old heap.new) }
 {
@@ -388,6 +393,7 @@ pub fn call_function<H: Host>(
     ensures node { IfOk result (λ r. Enters r (function_at script.now code.node)) }
     ensures there { IfOk result (λ r.
         AreThere heap.new (entered_names r (H.names.host host.now))) }
+    ensures parts { IfOk result (λ r. EntersParts r) }
     ensures inner { IfOk result (λ r. IsBelow (length heap.new.scopes) (entered_scope r)) }
     ensures more { OnOk result (IsWider heap.old heap.new) }
 {

@@ -91,7 +91,7 @@ module _ {H D : Type 0} where
 
 module _ {H D : Type 0} (R : HostRows H D) where
   -- a native that asks is given the answer, where there is one
-  abbrev answered : Option Input → World → H → NativeId → NativeCall → Outcome × World × H
+  abbrev pub answered : Option Input → World → H → NativeId → NativeCall → Outcome × World × H
       → Outcome × World × H
   answered (Some i) w h n c (outcome.Needs k, w', h') = R.give w h n c i
   answered a w h n c r = r

@@ -7,3 +7,6 @@ returns-clause-is c = λ a held.
     entered_body c.args.code.text c.args.this c.args.made a c.in_ok-scope.scope
     (next_scope c.args.heap.now) c.restart.new.operands c.args.parts.statements.now
     c.in_ok-scope.ensures.number c.in_ok-restart.ensures held
+
+pub returns-clause-parts : goal.returns-clause-parts
+returns-clause-parts c = (c.args.parts.statements.now, c.in_ok-restart.ensures)
