@@ -54,7 +54,13 @@ module _ (D : Type 0) (ts : Arenas) (ordered : AreOrdered ts) (s s' : Stack D) (
   advances : Moved D ts ordered (stack_of ts s) (stack_of ts s') → IsSound ts s'
       → ((dispatched : D → List Value) (w : World) → StackIsThere dispatched w s
       → StackIsThere dispatched w s') → Advances ts s s'
-  advances m h there = record { same = m.same; lighter = m.lighter; sound = h; there = there }
+  advances m h there = record {
+    same = m.same;
+    lighter = m.lighter;
+    sound = h;
+    base = base;
+    there = there;
+  }
 
   module _ (at : s.focus ≡ focus.Resting) where
     rests : Resting ts s.base s.context fs f

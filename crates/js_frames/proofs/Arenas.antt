@@ -2,8 +2,8 @@
 use Rattle.std.proofs.Common.{◌≡◌, ℕ, zero, suc, ◌+◌, [], ◌∷◌, ◌++◌, Some}
 use Rattle.std.proofs.Common.{None, replicate, refl, ap, sym, ◌∙◌, append_assoc}
 use Rattle.std.proofs.lemmas.List.{append-nil, replicate_more}
-use Rattle.js_tree.specs.Arena.{Arena, IsOrdered}
-use Rattle.js_frames.specs.Arenas.{AreOrdered, Arenas, arena_of}
+use Rattle.js_tree.specs.Arena.{Arena}
+use Rattle.js_frames.specs.Arenas.{Arenas, arena_of}
 
 pub arena-none : (ts : Arenas) (x : ℕ) → arena_of (ts ++ None ∷ []) x ≡ arena_of ts x
 arena-none [] zero = refl
@@ -11,12 +11,13 @@ arena-none [] (suc x) = refl
 arena-none (t ∷ ts) zero = refl
 arena-none (t ∷ ts) (suc x) = arena-none ts x
 
-pub ordered-with : (ts : Arenas) (a : Arena) → AreOrdered ts → IsOrdered a → AreOrdered
-    (ts ++ Some a ∷ [])
-ordered-with [] a o is zero = is
-ordered-with [] a o is (suc x) = o zero
-ordered-with (t ∷ ts) a o is zero = o zero
-ordered-with (t ∷ ts) a o is (suc x) = ordered-with ts a (λ y. o (suc y)) is x
+-- with one more text, what each has
+pub all-with : (P : Arena → Type 0) (ts : Arenas) (a : Arena) → ((x : ℕ) → P (arena_of ts x))
+    → P a → (x : ℕ) → P (arena_of (ts ++ Some a ∷ []) x)
+all-with P [] a o is zero = is
+all-with P [] a o is (suc x) = o zero
+all-with P (t ∷ ts) a o is zero = o zero
+all-with P (t ∷ ts) a o is (suc x) = all-with P ts a (λ y. o (suc y)) is x
 
 pub skipped-none : (ts : Arenas) (n : ℕ) → n ≡ 0 → ts ≡ ts ++ replicate n None
 skipped-none ts n e = sym (ap (λ k. ts ++ replicate k None) e ∙ append-nil ts)

@@ -64,7 +64,7 @@ frames-nothing D ts s o a fs e past =
     (begun-nothing a s.node past) in
     sym (ap (λ gs. fs ++ gs) none ∙ append-nil fs)
 
-begun-row : (r : ExprRow) → later_row r phase.Begun ≡ r
+pub begun-row : (r : ExprRow) → later_row r phase.Begun ≡ r
 begun-row ExprRow.This = refl
 begun-row r = refl
 
@@ -109,6 +109,11 @@ module _ (D : Type 0) (ts : Arenas) (s : Site) (outermost : NodeId) (ordered : I
       begun-option (node_row_of arena (node_at arena s.node))
       ∙ (row-tree arena ordered s.node ∙ ap tree_row (tree-by ∙ ap tree_by e))
 
+  begun-place : (k : Kept) → slice_get arena.kept s.node.number ≡ Some k → (q : Option ExprRow)
+      → place_at ts (Some s) (begun_work {D = D} outermost q) ≡ At s.text k.from
+  begun-place k is (Some r) = rw is refl
+  begun-place k is None = rw is refl
+
   pub begun-same : (k : Kept) (e : Evaluation) → slice_get arena.kept s.node.number ≡ Some k
       → frame_row ts (begun_frame {D = D} ts s outermost e)
       ≡ row_of {F = Form D} around (At s.text k.from) (production_of k.node)
@@ -117,7 +122,7 @@ module _ (D : Type 0) (ts : Arenas) (s : Site) (outermost : NodeId) (ordered : I
       let there : node_at arena s.node ≡ Some k.node = ap (option_map (λ
       (j : Kept). j.node)) is in
       let q = row_in arena s.node phase.Begun in
-      let placed : place_at ts (Some s) ≡ At s.text k.from = rw is refl in
+      let placed = begun-place k is q in
       ap (λ p. record {
         place = p;
         row = work_row ts {D = D} no_context (Some s)

@@ -16,7 +16,7 @@ use Rattle.js_tree.specs.declared.node.NodeId.{NodeId}
 use Rattle.js_tree.specs.declared.script.Kept.{Kept}
 use Rattle.js_term.specs.ArenaOperands.{as_operands, begun_as, begun_at, begun_node, node_literal}
 use Rattle.js_term.specs.ArenaOperands.{node_operands}
-use Rattle.js_term.specs.Evaluation.{Evaluation}
+use Rattle.js_term.specs.Evaluation.{Evaluation, taken}
 use Rattle.js_term.specs.Frames.{passes}
 use Rattle.js_term.specs.declared.begun.Begun.{Begun}
 use Rattle.js_term.specs.declared.begun.Begun.TheVariants as begun
@@ -36,9 +36,10 @@ use Rattle.js_rows.specs.Hosted.{PageRow}
 use Rattle.js_frames.specs.Arenas.{Arenas, arena_of}
 use Rattle.js_frames.specs.Begun.{begun_focus, begun_frame, begun_frames, begun_work, focus_by}
 use Rattle.js_frames.specs.Begun.{frames_by}
-use Rattle.js_frames.specs.Rows.{frame_row, no_context, work_row}
+use Rattle.js_frames.specs.Rows.{expression_at, frame_row, no_context, work_row}
 use Rattle.js_frames.specs.Soundness.{AwaitsBody, Awaits, HasContexts, IsPlaced, IsResting, IsSound}
-use Rattle.js_frames.specs.Soundness.{IsThis, LeadsTo, StandsIn, WorkIsLabelled, contexts_of}
+use Rattle.js_frames.specs.Soundness.{HasOperands, HasTarget, IsThis, LeadsTo, StandsIn, WorkHasTarget}
+use Rattle.js_frames.specs.Soundness.{WorkIsLabelled, contexts_of}
 use Rattle.js_frames.specs.Soundness.{inner_of, moved_rows}
 use Rattle.js_frames.specs.declared.frame.Contexts.{Contexts}
 use Rattle.js_frames.specs.declared.frame.Frame.{Frame}
@@ -47,6 +48,7 @@ use Rattle.js_frames.specs.declared.frame.Work.{Work}
 use Rattle.js_frames.specs.declared.frame.Work.TheVariants as work
 use Rattle.js_frames.specs.declared.stack.Stack.{Stack}
 use Rattle.js_frames.specs.inner.Advances.{inner_in, outer_in, with_value}
+use Rattle.js_frames.proofs.BegunTargets.{begun-has, taken-has}
 use Rattle.js_frames.proofs.Labels.{inner-begun}
 use Rattle.js_frames.proofs.Sounds.{Resting, at, Waiting, context-push, nested-last, nested-left}
 use Rattle.js_frames.proofs.Sounds.{nested-push, passes-push, rest-sound, settled-last}
@@ -86,11 +88,31 @@ module _ (D : Type 0) (ts : Arenas) where
       }
   labels-drop s w xs h = tt
 
+  target-push : (r : ExprRow) (vs : List Value) (v : Value) → HasTarget r vs
+      → HasTarget r (vs ++ v ∷ [])
+  target-push (ExprRow.ComputeMember o k) (e ∷ vs) v h = h
+  target-push (ExprRow.ComputeMember o k) [] v h = absurd h
+  target-push (ExprRow.ComputeIndex o) (e ∷ k ∷ vs) v h = h
+  target-push (ExprRow.ComputeIndex o) (e ∷ []) v h = absurd h
+  target-push (ExprRow.ComputeIndex o) [] v h = absurd h
+  target-push r vs v h = tt
+
+  work-target-push : (s : Option Site) (w : Work D) (e : Evaluation) (v : Value)
+      → WorkHasTarget ts s w e → WorkHasTarget ts s w (taken v e)
+  work-target-push s (work.Expression expr_phase.Begun) e v h =
+      taken-has (expression_at ts s expr_phase.Begun) e v h
+  work-target-push s (work.Expression expr_phase.Store) e v h =
+      taken-has (expression_at ts s expr_phase.Store) e v h
+  work-target-push s (work.Expression expr_phase.Compute) e v h =
+      target-push (expression_at ts s expr_phase.Compute) e.done v h
+  work-target-push s w e v h = tt
+
   placed-drop : (f : Frame D) (v : Value) → IsPlaced ts f → IsPlaced ts (with_value v f)
   placed-drop f v h = record {
     node = h.node;
     labels = labels-drop f.site f.work f.operands.todo
         h.labels;
+    target = work-target-push f.site f.work f.operands v h.target;
   }
 
   -- with the value of its next operand a frame rests, of which no early step was left out
@@ -191,13 +213,23 @@ module _ (D : Type 0) (ts : Arenas) where
           (node_at arena) k.node));
     }
 
+    begun-target : (q : Option ExprRow)
+        → HasOperands (expression_at ts (Some s) expr_phase.Begun) e
+        → WorkHasTarget {D = D} ts (Some s) (begun_work o q) e
+    begun-target (Some r) h = h
+    begun-target None h = tt
+
     begun-placed : slice_get arena.kept s.node.number ≡ Some k → LeadsTo arena o s.node
-        → e.todo ≡ as_operands (node_operands (node_at arena) k.node) → IsPlaced ts new
-    begun-placed is h same = record {
+        → e ≡ record { done = []; todo = as_operands (node_operands (node_at arena) k.node) }
+        → IsPlaced ts new
+    begun-placed is h whole = record {
+      target =
+          begun-target (row_in arena s.node expr_phase.Begun)
+          (begun-has arena s.node k.node e (ap (option_map (λ (j : Kept). j.node)) is) whole);
       node = slice_get_within arena.kept s.node.number k is;
       labels =
           begun-labels (row_in arena s.node expr_phase.Begun) h (ap (option_map (λ
-          (j : Kept). j.node)) is) same;
+          (j : Kept). j.node)) is) (ap (λ x. x.todo) whole);
     }
 
     begun-inner : (q : Option ExprRow) (c : Context) → node_at arena s.node ≡ Some k.node
@@ -248,7 +280,7 @@ module _ (D : Type 0) (ts : Arenas) where
               (arena_of ts s.text)) k.node);
         } in
         let is-made : made ≡ e = same_operands made e same in (
-          begun-placed s o k e is h (sym (ap (λ x. x.todo) is-made)),
+          begun-placed s o k e is h (sym is-made),
           begun-rests s o k e is
               t.context (sym (ap (λ x. x.done) is-made)),
         )

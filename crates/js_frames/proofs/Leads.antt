@@ -220,8 +220,8 @@ module _ (a : Arena) (is : IsOrdered a) (c : Context) (o n id : NodeId) (k : Stm
   labelled-leads m p e t w = cc
 
 module _ (D : Type 0) (ts : Arenas) (ordered : AreOrdered ts) where
-  abbrev arena : Option Site → Arena
-  arena s = arena_of ts (text_of (place_at ts s))
+  abbrev arena : Option Site → Work D → Arena
+  arena s w = arena_of ts (text_of (place_at ts s w))
 
   labels-either : (s : Site) (c : Context) (state : StmtState) (k : StmtKept) (xs : List Operand)
       (id : NodeId)
@@ -233,8 +233,8 @@ module _ (D : Type 0) (ts : Arenas) (ordered : AreOrdered ts) where
             id;
         statement = id;
       })
-      ≡ labels_of (placed (place_at ts (Some s)) (work_row ts {D = D} c (Some s)
-      (work.Statement state k)))
+      ≡ labels_of (placed (place_at ts {D = D} (Some s) (work.Statement state k))
+      (work_row ts {D = D} c (Some s) (work.Statement state k)))
   labels-either s c state k xs id h first true e =
       labelled-labels (arena_of ts s.text) (ordered s.text) c state.outermost s.node id k xs h.leads
       first
@@ -248,22 +248,23 @@ module _ (D : Type 0) (ts : Arenas) (ordered : AreOrdered ts) where
   labels-by : (s : Option Site) (w : Work D) (c : Context) (xs : List Operand) (id : NodeId)
       → WorkIsLabelled ts s w xs
       → slice_get xs 0 ≡ Some (operand.Node id)
-      → labels_around (arena s) (record { outermost = outermost_by ts s w id; statement = id })
-      ≡ labels_of (placed (place_at ts s) (work_row ts c s w))
+      → labels_around (arena s w) (record { outermost = outermost_by ts s w id; statement = id })
+      ≡ labels_of (placed (place_at ts s w) (work_row ts c s w))
   labels-by (Some s) (work.Statement state k) c xs id h first =
       labels-either s c state k xs id h first (is_labelled (node_at
       (arena_of ts s.text) s.node) state.phase) refl
-  labels-by None (work.Statement state k) c xs id h first = labels-self (arena None) (ordered 0) id
-  labels-by s (work.Expression f) c xs id h first = labels-self (arena s) (ordered (text_of
-      (place_at ts s))) id
-  labels-by s (work.Native q) c xs id h first = labels-self (arena s) (ordered (text_of
-      (place_at ts s))) id
-  labels-by s (work.Begin d) c xs id h first = labels-self (arena s) (ordered (text_of
-      (place_at ts s))) id
-  labels-by s (work.Fresh e) c xs id h first = labels-self (arena s) (ordered (text_of
-      (place_at ts s))) id
-  labels-by s (work.Dispatch d) c xs id h first = labels-self (arena s) (ordered (text_of
-      (place_at ts s))) id
+  labels-by None (work.Statement state k) c xs id h first =
+      labels-self (arena None (work.Statement state k)) (ordered 0) id
+  labels-by s (work.Expression f) c xs id h first =
+      labels-self (arena s (work.Expression f)) (ordered (text_of (place_at ts {D = D} s (work.Expression f)))) id
+  labels-by s (work.Native q) c xs id h first =
+      labels-self (arena s (work.Native q)) (ordered (text_of (place_at ts {D = D} s (work.Native q)))) id
+  labels-by s (work.Begin d) c xs id h first =
+      labels-self (arena s (work.Begin d)) (ordered (text_of (place_at ts {D = D} s (work.Begin d)))) id
+  labels-by s (work.Fresh e) c xs id h first =
+      labels-self (arena s (work.Fresh e)) (ordered (text_of (place_at ts {D = D} s (work.Fresh e)))) id
+  labels-by s (work.Dispatch d) c xs id h first =
+      labels-self (arena s (work.Dispatch d)) (ordered (text_of (place_at ts {D = D} s (work.Dispatch d)))) id
 
   leads-either : (s : Site) (state : StmtState) (xs : List Operand) (id : NodeId)
       → IsLabelled (arena_of ts s.text) s.node state xs → slice_get xs 0 ≡ Some
@@ -278,7 +279,7 @@ module _ (D : Type 0) (ts : Arenas) (ordered : AreOrdered ts) where
 
   leads-by : (s : Option Site) (w : Work D) (xs : List Operand) (id : NodeId)
       → WorkIsLabelled ts s w xs
-      → slice_get xs 0 ≡ Some (operand.Node id) → LeadsTo (arena s)
+      → slice_get xs 0 ≡ Some (operand.Node id) → LeadsTo (arena s w)
       (outermost_by ts s w id) id
   leads-by (Some s) (work.Statement state k) xs id h first =
       leads-either s state xs id h first (is_labelled (node_at
@@ -293,7 +294,8 @@ module _ (D : Type 0) (ts : Arenas) (ordered : AreOrdered ts) where
   -- the operand that comes next has the labels of its frame's row
   pub operand-labels : (f : Frame D) (id : NodeId) → IsPlaced ts f
       → slice_get f.operands.todo 0 ≡ Some (operand.Node id)
-      → labels_around (arena f.site) (record { outermost = outermost_of ts f id; statement = id })
+      → labels_around (arena f.site f.work)
+      (record { outermost = outermost_of ts f id; statement = id })
       ≡ labels_of (frame_row ts f)
   operand-labels f id h first =
       labels-by f.site f.work (unwrap_or (option_map (λ b. b.value.inner) f.contexts) no_context)
@@ -301,5 +303,5 @@ module _ (D : Type 0) (ts : Arenas) (ordered : AreOrdered ts) where
 
   pub operand-leads : (f : Frame D) (id : NodeId) → IsPlaced ts f
       → slice_get f.operands.todo 0 ≡ Some (operand.Node id)
-      → LeadsTo (arena f.site) (outermost_of ts f id) id
+      → LeadsTo (arena f.site f.work) (outermost_of ts f id) id
   operand-leads f id h first = leads-by f.site f.work f.operands.todo id h.labels first

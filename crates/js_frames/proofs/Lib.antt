@@ -8,6 +8,7 @@ pub mod Begun
 pub mod Sounds
 pub mod Leads
 pub mod FreeMoves
+pub mod BegunTargets
 pub mod Kept
 pub mod Theres
 pub mod Advancing

@@ -11,7 +11,7 @@ use Rattle.js_term.specs.declared.context.Context.{Context}
 use Rattle.js_frames.specs.Arenas.{Arenas}
 use Rattle.js_frames.specs.Reading.{below, last, waits}
 use Rattle.js_frames.specs.Rows.{frame_row}
-use Rattle.js_frames.specs.Soundness.{AreNested, Awaits, IsPlaced, IsResting, IsSound, StandsIn}
+use Rattle.js_frames.specs.Soundness.{AreNested, AreWaiting, Awaits, IsPlaced, IsResting, IsSound, StandsIn}
 use Rattle.js_frames.specs.Soundness.{TopRests, inner_of, moved_rows}
 use Rattle.js_frames.specs.declared.frame.Focus.TheVariants as focus
 use Rattle.js_frames.specs.declared.frame.Frame.{Frame}
@@ -80,13 +80,8 @@ module _ {D : Type 0} (ts : Arenas) where
   settled-last [] f a = a.0
   settled-last (g ∷ fs) f a = settled-last fs f a.1
 
-  -- frames that all wait, over this base, where this context is that at their top
-  pub record Waiting (base c : Context) (fs : List (Frame D)) : Type 0 where
-    pub placed : Each (IsPlaced ts) fs
-    pub awaits : Each Awaits fs
-    pub settled : Settled fs
-    pub nested : AreNested ts base fs
-    pub context : c ≡ at fs base
+  abbrev pub Waiting : (base c : Context) → List (Frame D) → Type 0
+  Waiting base c fs = AreWaiting ts base c fs
 
   -- a frame that rests above frames that wait
   pub record Resting (base c : Context) (fs : List (Frame D)) (f : Frame D) : Type 0 where

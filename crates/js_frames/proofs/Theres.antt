@@ -67,7 +67,7 @@ module _ (w : World) where
   coming-nodes (id ∷ ids) = coming-nodes ids
 
   -- what a node begins as names nothing
-  BegunIsThere : Begun → Type 0
+  pub BegunIsThere : Begun → Type 0
   BegunIsThere (begun.Value v) = IsThere w v
   BegunIsThere (begun.Operands e) = AreThere w (operand_names e [])
 
@@ -95,7 +95,7 @@ module _ (w : World) where
   option-there f (Some n) = node-there f n (node_literal n) (literal-there n)
   option-there f None = tt
 
-  begun-there : (a : Arena) (id : NodeId) → BegunIsThere (begun_as a id)
+  pub begun-there : (a : Arena) (id : NodeId) → BegunIsThere (begun_as a id)
   begun-there a id = option-there (node_at a) (node_at a id)
 
   context-inner : (b : Option Contexts) (c : Context) → ContextsAreThere w b
@@ -103,7 +103,7 @@ module _ (w : World) where
   context-inner (Some b) c h k = h.0
   context-inner None c h k = k
 
-  context-outer : (b : Option Contexts) (c : Context) → ContextsAreThere w b
+  pub context-outer : (b : Option Contexts) (c : Context) → ContextsAreThere w b
       → ContextIsThere w c → ContextIsThere w (unwrap_or (option_map (λ x. x.outer) b) c)
   context-outer (Some b) c h k = h.1
   context-outer None c h k = k
@@ -127,7 +127,7 @@ module _ (w : World) where
     begun-work-there o None = tt
 
     module _ (ts : Arenas) (s : Site) (o : NodeId) where
-      frames-there : (b : Begun) → BegunIsThere b → Each FrameHas (frames_by ts s o b)
+      pub frames-there : (b : Begun) → BegunIsThere b → Each FrameHas (frames_by ts s o b)
       unfolding BegunIsThere
       frames-there (begun.Value v) h = tt
       frames-there (begun.Operands e) h = (
@@ -139,7 +139,7 @@ module _ (w : World) where
         tt,
       )
 
-      focus-there : (b : Begun) → BegunIsThere b → AreThere w (focus_names (focus_by b))
+      pub focus-there : (b : Begun) → BegunIsThere b → AreThere w (focus_names (focus_by b))
       unfolding BegunIsThere
       focus-there (begun.Value v) h = (h, tt)
       focus-there (begun.Operands e) h = tt

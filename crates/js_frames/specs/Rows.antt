@@ -11,9 +11,14 @@ use Rattle.js_operands.specs.ExprMoves.{left_methods}
 use Rattle.js_operands.specs.Rows.{ExprRow}
 use Rattle.js_operands.specs.declared.row.Phase.{Phase}
 use Rattle.js_operands.specs.declared.row.Phase.TheVariants as phase
+use Rattle.js_stmt.specs.Lent.{IsLent}
 use Rattle.js_stmt.specs.NodeRows as nodes
 use Rattle.js_stmt.specs.Rows.{StmtRow}
 use Rattle.js_stmt.specs.declared.kept.StmtKept.{StmtKept}
+use Rattle.js_stmt.specs.declared.phase.StmtPhase.{StmtPhase}
+use Rattle.js_stmt.specs.declared.phase.StmtPhase.TheVariants as stmt_phase
+use Rattle.js_stmt.specs.declared.row.StmtRow.{StmtRow as CodeRow}
+use Rattle.js_calls.specs.Texts.{body_unit}
 use Rattle.js_rows.specs.Forms.{Form}
 use Rattle.js_rows.specs.Forms.Form.{Begin, Dispatch, Fresh, Native}
 use Rattle.js_rows.specs.Hosted.{PageRow}
@@ -49,9 +54,18 @@ module _ (ts : Arenas) where
   unit_at (Some s) = first_unit (span_at (arena_of ts s.text) s.node)
   unit_at None = 0
 
-  abbrev pub place_at : Option Site → Place
-  place_at (Some s) = At s.text (unit_at (Some s))
-  place_at None = Host
+  -- a body stands where its function does, by the unit that names it; any other node at its first
+  abbrev pub statement_unit : Site → StmtPhase → ℕ
+  statement_unit s stmt_phase.Body = body_unit (arena_of ts s.text) s.node
+  statement_unit s p = unit_at (Some s)
+
+  abbrev pub work_unit : {D : Type 0} → Site → Work D → ℕ
+  work_unit s (work.Statement state k) = statement_unit s state.phase
+  work_unit s w = unit_at (Some s)
+
+  abbrev pub place_at : {D : Type 0} → Option Site → Work D → Place
+  place_at (Some s) w = At s.text (work_unit s w)
+  place_at None w = Host
 
   -- what is no expression of a text is the host's
   abbrev pub expression_at : Option Site → Phase → ExprRow
@@ -63,6 +77,11 @@ module _ (ts : Arenas) where
   statement_at c (Some s) state k =
       nodes.row_in (arena_of ts s.text) c s.node state.outermost state.phase k
   statement_at c None state k = StmtRow.Free
+
+  -- what a statement's row in code lends is its node's
+  abbrev pub IsLentAt : Option Site → StmtState → StmtKept → CodeRow → Type 0
+  IsLentAt (Some s) state k r = IsLent (arena_of ts s.text) s.node state.outermost k r
+  IsLentAt None state k r = Unit {0}
 
   abbrev pub work_row : {D : Type 0} → Context → Option Site → Work D → Row (Form D)
   work_row c s (work.Expression f) = Row.Expression (expression_at s f)
@@ -76,5 +95,5 @@ module _ (ts : Arenas) where
   -- a body's row names its frame's own context
   abbrev pub frame_row : {D : Type 0} → Frame D → PageRow D
   frame_row f =
-      placed (place_at f.site)
+      placed (place_at f.site f.work)
       (work_row (unwrap_or (option_map (λ b. b.value.inner) f.contexts) no_context) f.site f.work)

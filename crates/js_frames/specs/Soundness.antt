@@ -1,14 +1,17 @@
 -- What holds of each stack that a run comes to.
-use Rattle.std.specs.Prelude.{◌≡◌, ℕ, ◌<◌, Bool, true, false, List, [], ◌∷◌}
-use Rattle.std.specs.Prelude.{Option, Some, None, length}
+use Rattle.std.specs.Prelude.{◌≡◌, ℕ, ◌+◌, ◌<◌, Bool, true, false, List, [], ◌∷◌}
+use Rattle.std.specs.Prelude.{Option, Some, None, length, map}
 use Rattle.std.specs.Option.{option_map}
+use Rattle.js_value.specs.Image.{is_primitive}
 use Rattle.js_value.specs.declared.value.Value.{Value}
 use Rattle.js_value.specs.declared.value.Value.TheVariants as value
+use Rattle.js_ops.specs.Convert.{is_missing}
 use Rattle.js_heap.specs.Closed.{Each}
 use Rattle.js_tree.specs.Arena.{Arena, node_at}
 use Rattle.js_tree.specs.declared.node.Node.{Node}
 use Rattle.js_tree.specs.declared.node.Node.TheVariants as node
 use Rattle.js_tree.specs.declared.node.NodeId.{NodeId}
+use Rattle.js_term.specs.Evaluation.{Evaluation}
 use Rattle.js_term.specs.Frames.{AreSettled, context_at, passes}
 use Rattle.js_term.specs.Table.{Table}
 use Rattle.js_term.specs.Table.Step.{Gives}
@@ -16,6 +19,8 @@ use Rattle.js_term.specs.Term.Term.{Val}
 use Rattle.js_term.specs.declared.context.Context.{Context}
 use Rattle.js_term.specs.declared.operands.Operand.{Operand}
 use Rattle.js_term.specs.declared.operands.Operand.TheVariants as operand
+use Rattle.js_operands.specs.Rows.{ExprRow}
+use Rattle.js_operands.specs.declared.row.Phase.TheVariants as expr_phase
 use Rattle.js_control.specs.Make.{expr_is_early}
 use Rattle.js_stmt.specs.Make.{inner_stmt}
 use Rattle.js_stmt.specs.declared.phase.StmtPhase.{StmtPhase}
@@ -25,8 +30,8 @@ use Rattle.js_rows.specs.Row.{Row}
 use Rattle.js_rows.specs.Row.Row.{Expression, Statement}
 use Rattle.js_rows.specs.Syntax.{has_no_step}
 use Rattle.js_frames.specs.Arenas.{Arenas, arena_of}
-use Rattle.js_frames.specs.Reading.{below, last, stack_of}
-use Rattle.js_frames.specs.Rows.{frame_row}
+use Rattle.js_frames.specs.Reading.{below, last, stack_of, waits}
+use Rattle.js_frames.specs.Rows.{expression_at, frame_row}
 use Rattle.js_frames.specs.declared.frame.Contexts.{Contexts}
 use Rattle.js_frames.specs.declared.frame.Focus.{Focus}
 use Rattle.js_frames.specs.declared.frame.Focus.TheVariants as focus
@@ -92,16 +97,40 @@ pub record IsLabelled (a : Arena) (n : NodeId) (state : StmtState) (xs : List Op
     pub leads : LeadsTo a state.outermost n
     pub body : AwaitsBody (node_at a n) state.phase xs
 
+-- behind the step that reads the target of `op=` its base is neither undefined nor null, and its key
+-- is a primitive value
+abbrev pub HasTarget : ExprRow → List Value → Type 0
+HasTarget (ExprRow.ComputeMember o k) (e ∷ vs) = is_missing e ≡ false
+HasTarget (ExprRow.ComputeMember o k) vs = ⊥
+HasTarget (ExprRow.ComputeIndex o) (e ∷ k ∷ vs) = (is_missing e ≡ false) × (is_primitive k ≡ true)
+HasTarget (ExprRow.ComputeIndex o) vs = ⊥
+HasTarget r vs = Unit {0}
+
+-- before that step a base and a key are among the operands
+abbrev pub HasOperands : ExprRow → Evaluation → Type 0
+HasOperands (ExprRow.ReviseIndex o t) e = 1 < length e.done + length e.todo
+HasOperands r e = Unit {0}
+
 module _ {D : Type 0} where
+  abbrev pub WorkHasTarget : Arenas → Option Site → Work D → Evaluation → Type 0
+  WorkHasTarget ts s (work.Expression expr_phase.Begun) e =
+      HasOperands (expression_at ts s expr_phase.Begun) e
+  WorkHasTarget ts s (work.Expression expr_phase.Store) e =
+      HasOperands (expression_at ts s expr_phase.Store) e
+  WorkHasTarget ts s (work.Expression expr_phase.Compute) e =
+      HasTarget (expression_at ts s expr_phase.Compute) e.done
+  WorkHasTarget ts s w e = Unit {0}
+
   abbrev pub WorkIsLabelled : Arenas → Option Site → Work D → List Operand → Type 0
   WorkIsLabelled ts (Some s) (work.Statement state k) xs =
       IsLabelled (arena_of ts s.text) s.node state xs
   WorkIsLabelled ts s w xs = Unit {0}
 
-  -- a frame stands at a node that is there, and knows the labels around it
+  -- a frame stands at a node that is there, knows the labels around it, and has its target's operands
   pub record IsPlaced (ts : Arenas) (f : Frame D) : Type 0 where
     pub node : HasNode ts f.site
     pub labels : WorkIsLabelled ts f.site f.work f.operands.todo
+    pub target : WorkHasTarget ts f.site f.work f.operands
 
   abbrev pub Awaits : Frame D → Type 0
   Awaits f = 0 < length f.operands.todo
@@ -122,6 +151,14 @@ module _ {D : Type 0} where
   AreNested ts c [] = Unit {0}
   AreNested ts c (f ∷ fs) =
       StandsIn ts c f × AreNested ts (inner_of (frame_row ts f).row c) fs
+
+  -- frames that all wait, over this base, where this context is that at their top
+  pub record AreWaiting (ts : Arenas) (base c : Context) (fs : List (Frame D)) : Type 0 where
+    pub placed : Each (IsPlaced ts) fs
+    pub awaits : Each Awaits fs
+    pub settled : AreSettled moved_rows (map (waits ts) fs)
+    pub nested : AreNested ts base fs
+    pub context : c ≡ context_at moved_rows (map (waits ts) fs) base
 
   -- of a frame that rests in this context no early step was left out
   pub record IsResting (ts : Arenas) (c : Context) (f : Frame D) : Type 0 where

@@ -229,6 +229,7 @@ impl<D: Drop> Stack<D> {
         ensures sound { OnOk result (IsSound texts.now self.new) }
         ensures there { (dispatched : D → List Val) (w : World) → OnOk result
             (StackIsThere dispatched w self.old → StackIsThere dispatched w self.new) }
+        ensures base { OnOk result (self.new.base ≡ self.old.base) }
         ensures due { IfOk result (λ d. IsDue texts.now self.new d) }
     {
         loop {

@@ -7,7 +7,8 @@ ghost use Rattle.js_stmt.specs.Parts.{IsHeld, row_parts};
 ghost use Rattle.js_term.specs.declared.context.Context.{Context as At};
 ghost use Rattle.js_tree.specs.Arena.{Arena};
 ghost use Rattle.js_rows.specs.Syntax.{has_no_step};
-ghost use Rattle.js_frames.specs.Rows.{expression_at, frame_row, host_row, site_arena, statement_at, unit_at};
+ghost use Rattle.js_frames.specs.Rows.{IsLentAt, expression_at, frame_row, host_row, site_arena};
+ghost use Rattle.js_frames.specs.Rows.{statement_at, unit_at};
 ghost use Rattle.js_frames.specs.Soundness.{HasNode, moved_rows};
 
 use crate::frame::{Frame, Site, StmtState, Work};
@@ -57,6 +58,7 @@ pub fn statement_row<'a>(
     ensures row { (c : At) → stmts.row_as (site_arena texts.now site) c result
         ≡ statement_at texts.now c site state kept.now }
     ensures held { IsHeld (site_arena texts.now site) (row_parts result) }
+    ensures lent { IsLentAt texts.now site state kept.now result }
 {
     let Some(site) = site else {
         return StmtRow::Free;

@@ -1,7 +1,8 @@
 // The scripts of a run's texts.
 ghost use Rattle.std.specs.Prelude.{◌≡◌, ℕ, ◌-◌, ◌≤◌, ◌++◌, [], None, length, replicate, OnOk};
 ghost use Rattle.std.specs.Option.{option_copied};
-ghost use Rattle.js_frames.specs.Arenas.{AreOrdered, arena_of, text_at, with_text};
+ghost use Rattle.js_calls.specs.Texts.{IsRead};
+ghost use Rattle.js_frames.specs.Arenas.{AreOrdered, AreRead, arena_of, text_at, with_text};
 
 use js_tree::Script;
 use mug_text::NoMemory;
@@ -16,13 +17,13 @@ pub struct Texts {
 }
 
 impl Model for Texts {
-    ghost use Rattle.js_frames.specs.Arenas.{AreOrdered, Arenas};
+    ghost use Rattle.js_frames.specs.Arenas.{AreOrdered, AreRead, Arenas};
 
     ghost Value = { Arenas };
 
     ghost view = { λ t. t.scripts.items };
 
-    ghost invariant = { λ t. AreOrdered t.scripts.items };
+    ghost invariant = { λ t. AreOrdered t.scripts.items × AreRead t.scripts.items };
 }
 
 // Puts texts without scripts, up to this number.
@@ -53,6 +54,7 @@ impl Texts {
     pub fn count(&self) -> usize
         ensures is { result ≡ length self.now }
         ensures ordered { AreOrdered self.now }
+        ensures read { AreRead self.now }
     {
         self.scripts.len()
     }
@@ -69,7 +71,8 @@ impl Texts {
 
     /// Puts the script of one more text; those between are texts that couldn't be read.
     pub fn add(&mut self, text: u32, script: Script) -> Result<(), NoMemory>
-        requires { length self.old ≤ text }
+        requires number { length self.old ≤ text }
+        requires read { IsRead script }
         ensures { OnOk result (self.new ≡ with_text text script self.old) }
     {
         let _nodes = script.count();

@@ -74,7 +74,7 @@ module _ {D : Type 0} where
 
   -- where an operand stands
   abbrev pub site_of : Arenas → Frame D → NodeId → Site
-  site_of ts f id = record { text = text_of (place_at ts f.site); node = id }
+  site_of ts f id = record { text = text_of (place_at ts f.site f.work); node = id }
 
   module _ (ts : Arenas) where
     -- the term is the same, and fewer moves are left
@@ -83,6 +83,7 @@ module _ {D : Type 0} where
       pub lighter : stack_weight (syntax ts) (stack_of ts s') < stack_weight (syntax ts)
           (stack_of ts s)
       pub sound : IsSound ts s'
+      pub base : s'.base ≡ s.base
       pub there : (dispatched : D → List Value) (w : World) → StackIsThere dispatched w s
           → StackIsThere dispatched w s'
 

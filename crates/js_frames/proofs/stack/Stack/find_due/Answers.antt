@@ -16,6 +16,7 @@ loop-due-preserved g c =
     record {
       sound = moved.sound;
       same = moved.same ∙ c.loop-due.invariant.same;
+      base = moved.base ∙ c.loop-due.invariant.base;
       there = λ dispatched w h. moved.there dispatched w
           (c.loop-due.invariant.there dispatched w h);
     }

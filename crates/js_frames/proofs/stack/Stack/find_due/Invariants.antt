@@ -12,6 +12,7 @@ abbrev pub invariant-loop-due : goal.invariant-loop-due
 invariant-loop-due g l = record {
   sound : IsSound l.texts l.self;
   same : term l.texts l.self ≡ term l.texts l.initial.self;
+  base : l.self.base ≡ l.initial.self.base;
   there : (dispatched : g.row.D.Denot → List Value) (w : World)
       → StackIsThere dispatched w l.initial.self
       → StackIsThere dispatched w l.self;
