@@ -1,0 +1,9 @@
+pub mod Standing
+pub mod Later
+pub mod ConversionTerms
+pub mod ExpressionPlaces
+pub mod StatementTerms
+pub mod StatementRests
+pub mod StatementsEntered
+pub mod StatementsMoved
+pub mod FormsPut

@@ -1,0 +1,5 @@
+pub mod Places
+pub mod Terms
+pub mod ExprPlaces
+pub mod StmtPlaces
+pub mod FormPlaces
